@@ -1,0 +1,12 @@
+pub mod Sides
+pub mod Legal
+pub mod Numbers
+pub mod States
+pub mod Orders
+pub mod Reports
+pub mod Written
+pub mod Figures
+pub mod Quotes
+pub mod Steps
+pub mod Calls
+pub mod Sound

@@ -1,0 +1,5 @@
+pub mod Placing
+pub mod Ranking
+pub mod Same
+pub mod Every
+pub mod Finding
