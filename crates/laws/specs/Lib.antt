@@ -1,0 +1,5 @@
+pub mod Strings
+pub mod Equal
+pub mod Happens
+pub mod Conserve
+pub mod Priority
