@@ -22,6 +22,7 @@ use Rattle.market.specs.States.{State, state, on, put, with-routes, numbered, f
 use Rattle.market.specs.Orders.{total, less, due, refresh, traded, trimmed, rested, routed, returned, remaining, with-shares, sharing}
 use Rattle.market.specs.Steps.{resting-near}
 use Rattle.market.specs.Sound.{Sound, able, resting-apart, routes-apart, resting-fair, route-fair, parted, clear-of}
+use Rattle.soundness.specs.Rest.{Restable}
 use Rattle.soundness.proofs.Lists.{unlike, route-unlike, every-place, every-imp, every-both, every-out, every-at, every-swap, rank-place, rank-route, rank-out, rank-swap, apart-place, apart-out, apart-swap, routes-place, routes-out}
 use Rattle.soundness.proofs.Trades.{every-traded, every-stays, apart-traded, rank-traded, fair-less, fair-refresh}
 
@@ -183,12 +184,6 @@ none-near o [] h k = refl
 none-near o (p ∷ ps) h k =
     let q = and-parts (none-before (resting-before (across-of (o .side))) p ps) _ h in
     and-from _ _ (let z : within (o .side) (o .limit) (p .price) ≡ false = k in grind (arith, tells)) (none-behind (o .side) (o .limit) p ps (q .0) k)
-
--- what an order that comes to rest on a side owes
-pub record Restable (d : Side) (p : Resting) (s : State) : Type 0 where
-  pub fair : resting-fair (s .next) p ≡ true
-  pub free : free (p .number) s ≡ true
-  pub clear : every (λ x. not (within d (p .price) (x .price))) (on (across-of d) s) ≡ true
 
 pub sound-placed : (d : Side) (p : Resting) (s : State) → Restable d p s → Sound s → Sound (put d (place (resting-before d) p (on d s)) s)
 sound-placed Buy p s w ((br, sr, rr), (bf, sf, rf), (ba, sa, ra), (bs, rb, rs)) =
