@@ -1,1 +1,11 @@
-
+pub mod Lines
+pub mod Sheets
+pub mod Rows
+pub mod Probes
+pub mod Tell
+pub mod Equal
+pub mod Orders
+pub mod Happens
+pub mod Conserve
+pub mod Apart
+pub mod Priority

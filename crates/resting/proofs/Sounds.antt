@@ -1,17 +1,21 @@
 -- A state whose lists are known is sound where the same lists are.
 use mathlib.Core.Path.{_≡_, refl, sym, subst, ap, _∙_}
 use mathlib.Core.List.{List, [], _∷_, _++_}
-use Prim.Native.Nat.{ℕ, _+_, _<_}
+use mathlib.Core.Bool.{true}
+use Prim.Native.Nat.{ℕ, _+_, _<_, _≤_}
+use native.Mathlib.Omega.{arith}
+use Rattle.std.proofs.shelf.Ways.{tells}
 use lib.ListN.{length, getD, take, drop}
 use Rattle.std.specs.Holes.{removed}
-use Rattle.ranking.specs.Place.{Spot, place, spot-at}
+use Rattle.ranking.specs.Place.{Spot, place, spot-at, every}
 use Rattle.market.specs.declared.types.Side.{Side}
 use Rattle.market.specs.declared.types.Resting.{Resting}
 use Rattle.market.specs.declared.types.Route.{Route}
 use Rattle.market.specs.Sides.{resting-before}
 use Rattle.market.specs.States.{State, state, on, put, with-routes}
 use Rattle.market.specs.Orders.{trimmed, total}
-use Rattle.market.specs.Sound.{Sound}
+use Rattle.market.specs.Sound.{Sound, resting-fair}
+use Rattle.soundness.proofs.Lists.{every-at}
 use Rattle.soundness.proofs.Keeps.{sound-out, sound-trimmed, sound-unrouted}
 use Rattle.resting.specs.Sides.{total-at, trim-at}
 use Rattle.resting.proofs.Places.{split-at, removed-is, trim-is, total-is}
@@ -42,6 +46,15 @@ pub sound-ended : (i : ℕ) (x : Route) (s : State) (l : List Route) → i < len
 sound-ended i x s l h e k =
     let P : List Route → Type 0 = λ y. Sound (with-routes y s) in
     subst P (sym (e ∙ removed-is (s .routes) i)) (sound-unrouted (spot-at (s .routes) i x) s (split-at (s .routes) i x h) k)
+
+few : (n : ℕ) (p : Resting) → resting-fair n p ≡ true → total p ≤ 999999
+few n p h = grind (arith, tells)
+
+-- the shares of a fair line add up to a legal size
+pub few-at : (n : ℕ) (xs : List Resting) (i : ℕ) (x : Resting) → i < length xs → x ≡ getD xs i x → every (resting-fair n) xs ≡ true → total x ≤ 999999
+few-at n xs i x h e f =
+    let g : resting-fair n (getD xs i x) ≡ true = every-at (resting-fair n) (take i xs) (drop (i + 1) xs) (getD xs i x) (sym (ap (every (resting-fair n)) (split-at xs i x h)) ∙ f) in
+    few n x (ap (resting-fair n) e ∙ g)
 
 -- an order that fills in past the end of a list
 abbrev pub no-order : Resting

@@ -30,7 +30,7 @@ use Rattle.market.specs.Sound.{Sound, able, routes-apart, route-fair, clear-of}
 use Rattle.soundness.proofs.Lists.{unlike, route-unlike, every-place, every-out, every-at, every-imp}
 use Rattle.soundness.proofs.Trades.{every-stays}
 use Rattle.soundness.proofs.Keeps.{given-on, not-given}
-use Rattle.soundness.proofs.Moves.{send-when, Sendable}
+use Rattle.soundness.proofs.Moves.{send-when}
 
 able-with : (n : ℕ) (o : Order) → 0 < n → n ≤ o .shares → able o ≡ true → able (with-shares n o) ≡ true
 able-with n o p l a = grind (arith, tells)
@@ -88,7 +88,7 @@ fits-act Rest s q o o′ f h e = grind arith
 -- what is left in hand has a number that is given and free
 pub fits-after : (s : State) (q : Quotes) (o o′ : Order) → fits (o .number) s ≡ true → Some o′ ≡ step s q o .left → fits (o′ .number) (step s q o .state) ≡ true
 fits-after s q o o′ h e =
-    ap (λ n. fits n (step s q o .state)) (number-act (move-of s q o) s q o o′ e) ∙ fits-act (move-of s q o) s q o o′ (λ x m. send-when s q o x m .left) h e
+    ap (λ n. fits n (step s q o .state)) (number-act (move-of s q o) s q o o′ e) ∙ fits-act (move-of s q o) s q o o′ (λ x m. send-when s q o x m .3) h e
 
 -- an entry that is not refused may be in hand
 pub able-entered : (d : Side) (t : Terms) (n : ℕ) → None ≡ terms-refusal t → able (entered d t n) ≡ true

@@ -1,6 +1,5 @@
 pub mod Lists
 pub mod Trades
-pub mod Firsts
 pub mod Moves
 pub mod Keeps
 pub mod Hands

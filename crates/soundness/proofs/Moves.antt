@@ -1,17 +1,17 @@
--- What holds where a rule applies.
-use mathlib.Core.Path.{_≡_, refl, sym, ap, subst, _∙_}
+-- What holds where a step of work trades, sends, takes off or rests.
+use mathlib.Core.Path.{_≡_, refl, subst}
 use mathlib.Core.Bool.{Bool, true, false, cond, not, _&&_, _||_}
 use mathlib.Core.List.{List, [], _∷_}
-use mathlib.Core.Logic.{_⊎_, inl, inr}
-use Prim.Native.Nat.{ℕ, _+_, _-_, _<_, _≤_, min}
+use mathlib.Core.Logic.{_⊎_, inl, inr, _≢_}
+use Prim.Native.Nat.{ℕ, _≤_, _<_}
 use native.Mathlib.Omega.{arith}
-use lib.Dec.{ltb, leb, eqb}
+use lib.Dec.{leb, eqb}
 use lib.ListN.{length}
 use Rattle.std.proofs.shelf.Ways.{tells}
-use Rattle.std.proofs.shelf.Tests.{and-parts, and-from, or-parts, cond-both}
+use Rattle.std.proofs.shelf.Tests.{true≢false, and-parts, or-parts, or-from, leb-false, eqb-false}
 use Rattle.std.specs.declared.option.Option.{Option}
 use Rattle.std.specs.declared.option.Option.the-variants.{Some, None}
-use Rattle.ranking.specs.Place.{in-rank, head-of}
+use Rattle.ranking.specs.Place.{in-rank, none-before, head-of}
 use Rattle.market.specs.declared.types.Side.{Side}
 use Rattle.market.specs.declared.types.Side.the-variants.{Buy, Sell}
 use Rattle.market.specs.declared.types.Kind.{Kind}
@@ -27,161 +27,125 @@ use Rattle.market.specs.Sides.{across-of, ahead, within, quotation-before}
 use Rattle.market.specs.Legal.{goes-out, trades-past, never-rests, never-locks}
 use Rattle.market.specs.States.{State, Quotes, on, quoted}
 use Rattle.market.specs.Reports.{reason-number}
-use Rattle.market.specs.Steps.{ends, sends, trades, move-of, resting-near, quotation-near, any-better, no-route, side-full}
-use Rattle.soundness.proofs.Firsts.{says}
+use Rattle.market.specs.Steps.{any-better, resting-near, quotation-near, no-route, side-full, ends, sends, trades, move-of}
+use Rattle.soundness.specs.Rules.{trades-with, goes-to, touches, No-trade, No-send, Rule, trading, sending, unroutable, unfilled, locking, crowded, resting}
 
--- a send
+same-some : {X : Type 0} (x y : X) (o : Option X) → Some x ≡ o → Some y ≡ o → x ≡ y
+same-some x y o e f = cc
 
-ends-not : (near full : Bool) (k : Kind) (x : Quotation) → ends near full k ≡ Send x → ⊥
-ends-not near full Limit x e = grind (arith, tells)
-ends-not near full BookOnly x e = grind (arith, tells)
-ends-not near full Immediate x e = grind (arith, tells)
-ends-not near full Sweep x e = grind (arith, tells)
+module _ (s : State) (q : Quotes) (o : Order) where
+  branch : (t : Bool) {m n : Move} → (t ≡ true → Rule s q o m) → (t ≡ false → Rule s q o n) → Rule s q o (cond t m n)
+  branch true f g = f refl
+  branch false f g = g refl
 
-sends-is : (o : Order) (oq : Option Quotation) (unable : Bool) (m : Move) (x : Quotation) → (m ≡ Send x → ⊥) → sends o oq unable m ≡ Send x → (Some x ≡ oq) × (unable ≡ false) × (within (o .side) (o .limit) (x .price) ≡ true)
-sends-is o None unable m x f e = absurd (f e)
-sends-is o (Some q) unable m x f e = grind (arith, tells)
+  rule-ends : No-trade s q o → No-send q o → Rule s q o (ends (touches s q o) (side-full (o .side) s) (o .kind))
+  rule-ends a b =
+      branch (never-rests (o .kind)) (λ t. unfilled a b t)
+      (λ t. branch (never-locks (o .kind) && touches s q o) (λ u. locking a b t u) (λ u. branch (side-full (o .side) s) (λ v. crowded a b t v) (λ v. resting a b t u v)))
 
-trades-is : (o : Order) (op : Option Resting) (qs : List Quotation) (m : Move) (x : Quotation) → trades o op qs m ≡ Send x → m ≡ Send x
-trades-is o None qs m x e = e
-trades-is o (Some p) qs m x e = grind (arith, tells)
+  rule-sends : (oq : Option Quotation) → oq ≡ head-of (quoted (across-of (o .side)) q) → No-trade s q o → {m : Move} → (No-send q o → Rule s q o m) → Rule s q o (sends o oq (no-route s) m)
+  rule-sends None e a k = k (λ x f. cc)
+  rule-sends (Some x) e a k =
+      branch (goes-to o x) (λ t. branch (no-route s) (λ u. unroutable x a e t u) (λ u. sending x a e t u))
+      (λ t. k (λ y f. subst (λ (z : Quotation). goes-to o z ≡ false) (same-some x y (head-of (quoted (across-of (o .side)) q)) e f) t))
 
-pub record Sendable (s : State) (q : Quotes) (o : Order) (x : Quotation) : Type 0 where
-  pub first : Some x ≡ head-of (quoted (across-of (o .side)) q)
-  pub room : length (s .routes) < 64
-  pub left : s .next ≡ 0 → ⊥
-  pub near : within (o .side) (o .limit) (x .price) ≡ true
+  rule-trades : (op : Option Resting) → op ≡ head-of (on (across-of (o .side)) s) → {m : Move} → (No-trade s q o → Rule s q o m) → Rule s q o (trades o op (quoted (across-of (o .side)) q) m)
+  rule-trades None e k = k (λ x f. cc)
+  rule-trades (Some x) e k =
+      branch (trades-with q o x) (λ t. trading x e t)
+      (λ t. k (λ y f. subst (λ (z : Resting). trades-with q o z ≡ false) (same-some x y (head-of (on (across-of (o .side)) s)) e f) t))
 
-pub send-when : (s : State) (q : Quotes) (o : Order) (x : Quotation) → move-of s q o ≡ Send x → Sendable s q o x
-send-when s q o x e =
-    let r = sends-is o _ _ _ x (ends-not _ _ (o .kind) x) (trades-is o _ _ _ x e) in
-    let u : (leb 64 (length (s .routes)) || eqb (s .next) 0) ≡ false = r .1 in
-    record { first = r .0; room = grind (arith, tells); left = λ z. grind (arith, tells); near = r .2 }
+  -- every move is made by its rule
+  pub rule : Rule s q o (move-of s q o)
+  rule = rule-trades (head-of (on (across-of (o .side)) s)) refl (λ a. rule-sends (head-of (quoted (across-of (o .side)) q)) refl a (λ b. rule-ends a b))
 
--- a rest
+-- what each move says of the book and the board
+abbrev pub Made : State → Quotes → Order → Move → Type 0
+Made s q o (Trade n price shown) =
+    (x : Resting) × (Some x ≡ head-of (on (across-of (o .side)) s)) × (trades-with q o x ≡ true) × (x .number ≡ n) × (x .price ≡ price) × (x .shown ≡ shown)
+Made s q o (Send x) = (Some x ≡ head-of (quoted (across-of (o .side)) q)) × (goes-to o x ≡ true) × (length (s .routes) < 64) × (s .next ≢ 0)
+Made s q o (TakeOff why) = 5 ≤ reason-number why
+Made s q o Rest = No-trade s q o × No-send q o × (never-rests (o .kind) ≡ false) × ((never-locks (o .kind) && touches s q o) ≡ false) × (length (on (o .side) s) < 256)
 
-near-better : (d : Side) (limit p q : ℕ) → within d limit p ≡ true → ahead (across-of d) q p ≡ true → within d limit q ≡ true
+-- a route can be opened
+pub route-left : (s : State) → no-route s ≡ false → (length (s .routes) < 64) × (s .next ≢ 0)
+route-left s u =
+    let p = or-parts (leb 64 (length (s .routes))) (eqb (s .next) 0) u in
+    (leb-false 64 (length (s .routes)) (p .0), eqb-false (s .next) 0 (p .1))
+
+pub made-by : {s : State} {q : Quotes} {o : Order} {m : Move} → Rule s q o m → Made s q o m
+made-by (trading x f t) = (x, f, t, refl, refl, refl)
+made-by {s} (sending x a f t u) = let r = route-left s u in (f, t, r .0, r .1)
+made-by (unroutable x a f t u) = omega arith
+made-by (unfilled a b t) = omega arith
+made-by (locking a b t u) = omega arith
+made-by (crowded a b t u) = omega arith
+made-by {s} {q} {o} (resting a b t u v) = (a, b, t, u, leb-false 256 (length (on (o .side) s)) v)
+
+pub made : (s : State) (q : Quotes) (o : Order) (m : Move) → move-of s q o ≡ m → Made s q o m
+made s q o m e = subst (Made s q o) e (made-by (rule s q o))
+
+-- a trade takes the first resting order across
+pub trade-when : (s : State) (q : Quotes) (o : Order) (n price shown : ℕ) → move-of s q o ≡ Trade n price shown → Made s q o (Trade n price shown)
+trade-when s q o n price shown e = made s q o (Trade n price shown) e
+
+-- a send takes the first quotation across, with a route and a number to spare
+pub send-when : (s : State) (q : Quotes) (o : Order) (x : Quotation) → move-of s q o ≡ Send x → Made s q o (Send x)
+send-when s q o x e = made s q o (Send x) e
+
+-- what is taken off in hand has reason 5 to 8
+pub off-when : (s : State) (q : Quotes) (o : Order) (why : Reason) → move-of s q o ≡ TakeOff why → 5 ≤ reason-number why
+off-when s q o why e = made s q o (TakeOff why) e
+
+-- the first quotation says whether any is better
+none-better : (d : Side) (p : ℕ) (q : Quotation) (rs : List Quotation) → none-before (quotation-before d) q rs ≡ true → ahead d (q .price) p ≡ false → any-better d p rs ≡ false
+none-better d p q [] l b = refl
+none-better Buy p q (r ∷ rs) l b =
+    let rest : none-before (quotation-before Buy) q rs ≡ true = grind (arith, tells) in
+    let h = none-better Buy p q rs rest b in grind (arith, tells)
+none-better Sell p q (r ∷ rs) l b =
+    let rest : none-before (quotation-before Sell) q rs ≡ true = grind (arith, tells) in
+    let h = none-better Sell p q rs rest b in grind (arith, tells)
+
+pub first-says : (d : Side) (p : ℕ) (q : Quotation) (rs : List Quotation) → in-rank (quotation-before d) (q ∷ rs) ≡ true → ahead d (q .price) p ≡ false → any-better d p (q ∷ rs) ≡ false
+first-says d p q rs o h = or-from (ahead d (q .price) p) (any-better d p rs) h (none-better d p q rs (and-parts (none-before (quotation-before d) q rs) (in-rank (quotation-before d) rs) o .0) h)
+
+-- what is better than a price within the limit is within it too
+near-better : (d : Side) (limit p q : ℕ) → within d limit p ≡ true → within d limit q ≡ false → ahead (across-of d) q p ≡ false
 near-better Buy limit p q h k = grind (arith, tells)
 near-better Sell limit p q h k = grind (arith, tells)
 
-ends-rest : (near full : Bool) (k : Kind) → ends near full k ≡ Rest → (full ≡ false) × (trades-past k ≡ false) × ((goes-out k ≡ true) ⊎ (near ≡ false))
-ends-rest near full Limit e = (grind (arith, tells), refl, inl refl)
-ends-rest near full BookOnly e = (grind (arith, tells), refl, inr (grind (arith, tells)))
-ends-rest near full Immediate e = grind (arith, tells)
-ends-rest near full Sweep e = grind (arith, tells)
+-- a kind that may rest never locks, or goes out and does not trade past
+rests-clear : (k : Kind) → never-rests k ≡ false → (never-locks k ≡ true) ⊎ ((goes-out k ≡ true) × (trades-past k ≡ false))
+rests-clear Limit r = inr (refl, refl)
+rests-clear BookOnly r = inl refl
+rests-clear Immediate r = absurd (true≢false r)
+rests-clear Sweep r = absurd (true≢false r)
 
-sends-rest : (o : Order) (oq : Option Quotation) (unable : Bool) (m : Move) → sends o oq unable m ≡ Rest → (m ≡ Rest) × ((goes-out (o .kind) ≡ true) → quotation-near o oq ≡ false)
-sends-rest o None unable m e = (e, λ _. refl)
-sends-rest o (Some q) unable m e = (grind (arith, tells), λ l. grind (arith, tells))
+none-sent : (o : Order) (oq : Option Quotation) → ((x : Quotation) → Some x ≡ oq → goes-to o x ≡ false) → (goes-out (o .kind) && quotation-near o oq) ≡ false
+none-sent o None f = grind (arith, tells)
+none-sent o (Some x) f = f x refl
 
-trades-rest : (o : Order) (op : Option Resting) (qs : List Quotation) (m : Move) → trades o op qs m ≡ Rest → m ≡ Rest
-trades-rest o None qs m e = e
-trades-rest o (Some p) qs m e = grind (arith, tells)
+-- no better quotation, and no trade: the first resting order is not within the limit
+not-near : (o : Order) (op : Option Resting) (qs : List Quotation) → in-rank (quotation-before (across-of (o .side))) qs ≡ true → trades-past (o .kind) ≡ false → quotation-near o (head-of qs) ≡ false → ((x : Resting) → Some x ≡ op → (within (o .side) (o .limit) (x .price) && (trades-past (o .kind) || not (any-better (across-of (o .side)) (x .price) qs))) ≡ false) → resting-near o op ≡ false
+not-near o None qs r t n f = refl
+not-near o (Some x) [] r t n f = let h = f x refl in grind (arith, tells)
+not-near o (Some x) (y ∷ ys) r t n f =
+    let h = f x refl in
+    let d : Side = across-of (o .side) in
+    elim (within (o .side) (o .limit) (x .price)) as (λ b. within (o .side) (o .limit) (x .price) ≡ b → b ≡ false) [
+      | true ↦ λ e. let a = first-says d (x .price) y ys r (near-better (o .side) (o .limit) (x .price) (y .price) e n) in (let z : _≡_ {A = Bool} true false = rw (e, t, a) at h in z)
+      | false ↦ λ e. refl
+    ] refl
 
-not-near : (o : Order) (p : Resting) (qs : List Quotation) (m : Move) → in-rank (quotation-before (across-of (o .side))) qs ≡ true → trades-past (o .kind) ≡ false → quotation-near o (head-of qs) ≡ false → trades o (Some p) qs m ≡ Rest → within (o .side) (o .limit) (p .price) ≡ false
-not-near o p [] m r w n e = grind (arith, tells)
-not-near o p (q ∷ qs) m r w n e =
-    let a = says (across-of (o .side)) (p .price) (q ∷ qs) q r refl in
-    let b = near-better (o .side) (o .limit) (p .price) (q .price) in grind (arith, tells)
-
-op-not-near : (o : Order) (op : Option Resting) (qs : List Quotation) (m : Move) → in-rank (quotation-before (across-of (o .side))) qs ≡ true → trades-past (o .kind) ≡ false → quotation-near o (head-of qs) ≡ false → trades o op qs m ≡ Rest → resting-near o op ≡ false
-op-not-near o None qs m r w n e = refl
-op-not-near o (Some p) qs m r w n e = not-near o p qs m r w n e
-
-rest-is : (o : Order) (op : Option Resting) (qs : List Quotation) (unable full : Bool) → in-rank (quotation-before (across-of (o .side))) qs ≡ true → trades o op qs (sends o (head-of qs) unable (ends (resting-near o op || quotation-near o (head-of qs)) full (o .kind))) ≡ Rest → (resting-near o op ≡ false) × (full ≡ false)
-rest-is o op qs unable full r e =
-    let t = trades-rest o op qs _ e in
-    let u = sends-rest o (head-of qs) unable _ t in
-    let v = ends-rest _ full (o .kind) (u .0) in
-    let n : quotation-near o (head-of qs) ≡ false = elim (v .2) [ inl l ↦ u .1 l | inr z ↦ or-parts (resting-near o op) (quotation-near o (head-of qs)) z .1 ] in
-    (op-not-near o op qs _ r (v .1) n e, v .0)
-
-pub record May-rest (s : State) (o : Order) : Type 0 where
-  pub clear : resting-near o (head-of (on (across-of (o .side)) s)) ≡ false
-  pub room : length (on (o .side) s) < 256
-
-pub rest-when : (s : State) (q : Quotes) (o : Order) → in-rank (quotation-before (across-of (o .side))) (quoted (across-of (o .side)) q) ≡ true → move-of s q o ≡ Rest → May-rest s o
+-- an order comes to rest on a side that has room, where the first resting order across is not within its limit
+pub rest-when : (s : State) (q : Quotes) (o : Order) → in-rank (quotation-before (across-of (o .side))) (quoted (across-of (o .side)) q) ≡ true → move-of s q o ≡ Rest → (resting-near o (head-of (on (across-of (o .side)) s)) ≡ false) × (length (on (o .side) s) < 256)
 rest-when s q o r e =
-    let z = rest-is o (head-of (on (across-of (o .side)) s)) (quoted (across-of (o .side)) q) _ (side-full (o .side) s) r e in
-    let u : leb 256 (length (on (o .side) s)) ≡ false = z .1 in
-    record { clear = z .0; room = grind (arith, tells) }
-
--- a trade
-
-trade-ends : (near full : Bool) (k : Kind) (n price shown : ℕ) → ends near full k ≡ Trade n price shown → ⊥
-trade-ends near full Limit n price shown e = grind (arith, tells)
-trade-ends near full BookOnly n price shown e = grind (arith, tells)
-trade-ends near full Immediate n price shown e = grind (arith, tells)
-trade-ends near full Sweep n price shown e = grind (arith, tells)
-
-trade-sends : (o : Order) (oq : Option Quotation) (unable : Bool) (m : Move) (n price shown : ℕ) → (m ≡ Trade n price shown → ⊥) → sends o oq unable m ≡ Trade n price shown → ⊥
-trade-sends o None unable m n price shown f e = f e
-trade-sends o (Some q) unable m n price shown f e = grind (arith, tells)
-
--- the trade is with the first resting order across, within the limit, and past no better quotation that the kind respects
-pub record Tradable (o : Order) (op : Option Resting) (qs : List Quotation) (n price shown : ℕ) : Type 0 where
-  pub with-it : Resting
-  pub first : Some with-it ≡ op
-  pub number : with-it .number ≡ n
-  pub price-is : with-it .price ≡ price
-  pub shown-is : with-it .shown ≡ shown
-  pub near : within (o .side) (o .limit) price ≡ true
-  pub past : (trades-past (o .kind) || not (any-better (across-of (o .side)) price qs)) ≡ true
-
-trade-is : (o : Order) (op : Option Resting) (qs : List Quotation) (m : Move) (n price shown : ℕ) → (m ≡ Trade n price shown → ⊥) → trades o op qs m ≡ Trade n price shown → Tradable o op qs n price shown
-trade-is o None qs m n price shown f e = absurd (f e)
-trade-is o (Some x) qs m n price shown f e =
-    let b = within (o .side) (o .limit) (x .price) && (trades-past (o .kind) || not (any-better (across-of (o .side)) (x .price) qs)) in
-    let at : (t : Bool) → (within (o .side) (o .limit) (x .price) && (trades-past (o .kind) || not (any-better (across-of (o .side)) (x .price) qs))) ≡ t → cond t (Trade (x .number) (x .price) (x .shown)) m ≡ Trade n price shown → Tradable o (Some x) qs n price shown = λ t u v.
-    elim t as (λ z. (within (o .side) (o .limit) (x .price) && (trades-past (o .kind) || not (any-better (across-of (o .side)) (x .price) qs))) ≡ z → cond z (Trade (x .number) (x .price) (x .shown)) m ≡ Trade n price shown → Tradable o (Some x) qs n price shown) [
-      | true ↦ λ u w.
-          let a : x .number ≡ n = cc in
-          let c : x .price ≡ price = cc in
-          let d : x .shown ≡ shown = cc in
-          let r = and-parts (within (o .side) (o .limit) (x .price)) _ u in
-          record {
-            with-it = x;
-            first = refl;
-            number = a;
-            price-is = c;
-            shown-is = d;
-            near = ap (within (o .side) (o .limit)) (sym c) ∙ r .0;
-            past = ap (λ k. trades-past (o .kind) || not (any-better (across-of (o .side)) k qs)) (sym c) ∙ r .1;
-          }
-      | false ↦ λ u w. absurd (f w)
-    ] u v in
-    at b refl e
-
-pub trade-when : (s : State) (q : Quotes) (o : Order) (n price shown : ℕ) → move-of s q o ≡ Trade n price shown → Tradable o (head-of (on (across-of (o .side)) s)) (quoted (across-of (o .side)) q) n price shown
-trade-when s q o n price shown e = trade-is o _ _ _ n price shown (trade-sends o _ _ _ n price shown (trade-ends _ _ (o .kind) n price shown)) e
-
--- a take-off
-
-reasons : (t : Bool) (a why : Reason) (m : Move) → (m ≡ TakeOff why → 5 ≤ reason-number why) → 5 ≤ reason-number a → cond t (TakeOff a) m ≡ TakeOff why → 5 ≤ reason-number why
-reasons true a why m f h e = let same : a ≡ why = cc in subst (λ (r : Reason). 5 ≤ reason-number r) same h
-reasons false a why m f h e = f e
-
-ends-off : (near full : Bool) (k : Kind) (why : Reason) → ends near full k ≡ TakeOff why → 5 ≤ reason-number why
-ends-off near full k why =
-    reasons (never-rests k) Unfilled why _ (reasons (never-locks k && near) WouldLock why _ (reasons full SideFull why Rest (λ e. grind arith) (omega arith)) (omega arith)) (omega arith)
-
-sends-off : (o : Order) (oq : Option Quotation) (unable : Bool) (m : Move) (why : Reason) → (m ≡ TakeOff why → 5 ≤ reason-number why) → sends o oq unable m ≡ TakeOff why → 5 ≤ reason-number why
-sends-off o None unable m why f e = f e
-sends-off o (Some q) unable m why f e =
-    cond-both (goes-out (o .kind) && within (o .side) (o .limit) (q .price)) _ _ (λ x. x ≡ TakeOff why → 5 ≤ reason-number why)
-    (λ _. reasons unable NoRoute why (Send q) (λ z. grind arith) (omega arith)) (λ _. f) e
-
-trades-off : (o : Order) (op : Option Resting) (qs : List Quotation) (m : Move) (why : Reason) → trades o op qs m ≡ TakeOff why → m ≡ TakeOff why
-trades-off o None qs m why e = e
-trades-off o (Some p) qs m why e = other _ e
-  where
-    other : (t : Bool) → cond t (Trade (p .number) (p .price) (p .shown)) m ≡ TakeOff why → m ≡ TakeOff why
-    other true e = grind arith
-    other false e = e
-
-pub off-when : (s : State) (q : Quotes) (o : Order) (why : Reason) → move-of s q o ≡ TakeOff why → 5 ≤ reason-number why
-off-when s q o why e =
-    let d = across-of (o .side) in
-    let near = resting-near o (head-of (on d s)) || quotation-near o (head-of (quoted d q)) in
-    let full = side-full (o .side) s in
-    sends-off o (head-of (quoted d q)) (no-route s) (ends near full (o .kind)) why (ends-off near full (o .kind) why) (trades-off o (head-of (on d s)) (quoted d q) _ why e)
+    let m = made s q o Rest e in
+    let op : Option Resting = head-of (on (across-of (o .side)) s) in
+    let qs : List Quotation = quoted (across-of (o .side)) q in
+    let near : Bool = resting-near o op in
+    let away : Bool = quotation-near o (head-of qs) in
+    let locks : (never-locks (o .kind) && (near || away)) ≡ false = m .3 in
+    let sent : (goes-out (o .kind) && away) ≡ false = none-sent o (head-of qs) (m .1) in
+    (elim (rests-clear (o .kind) (m .2)) [ inl t ↦ or-parts near away (rw t at locks) .0 | inr w ↦ not-near o op qs r (w .1) (rw (w .0) at sent) (m .0) ], m .4)

@@ -80,6 +80,16 @@ impl<T> RankedList<T> {
         if place < self.lines.len() { Some(self.lines[place]) } else { None }
     }
 
+    // The line at a place.
+    pub fn line_at(&self, place: usize) -> T
+    where
+        T: Copy,
+        requires { ⌜ place < length (lines-of (now self)) ⌝ }
+        ensures { λ r. ⌜ ((d : T) → r ≡ getD (lines-of (now (self .entry))) place d) ⌝ }
+    {
+        self.lines[place]
+    }
+
     // The first line, if there is one.
     pub fn first(&self) -> Option<T>
     where

@@ -1,9 +1,11 @@
 // What is read of the open orders.
 ghost use mathlib.Core.Path.{_≡_};
-ghost use lib.ListN.{length};
+ghost use Prim.Native.Nat.{_<_, _≤_};
+ghost use lib.ListN.{length, getD};
 ghost use Rattle.std.specs.shelf.Maps.{nth};
 ghost use Rattle.ranking.specs.Place.{head-of, Found};
 ghost use Rattle.market.specs.States.{on, free, fits, route-bears};
+ghost use Rattle.market.specs.Orders.{total};
 ghost use Rattle.market.specs.Steps.{no-route, side-full};
 ghost use Rattle.resting.specs.Orders.{state-of, Located};
 use super::OpenOrders;
@@ -56,6 +58,26 @@ impl OpenOrders {
         ensures { λ r. ⌜ r ≡ nth (state-of (now (self .entry)) .routes) place ⌝ }
     {
         self.routes.line(place)
+    }
+
+    // The resting order at a place of a side. Its shares add up to a legal size.
+    pub fn line_at(&self, side: Side, place: usize) -> Resting
+        requires { ⌜ place < length (on side (state-of (now self))) ⌝ }
+        ensures value { λ r. ⌜ ((d : Resting) → r ≡ getD (on side (state-of (now (self .entry)))) place d) ⌝ }
+        ensures few { λ r. ⌜ total r ≤ 999999 ⌝ }
+    {
+        match side {
+            Side::Buy => self.buys.line_at(place),
+            Side::Sell => self.sells.line_at(place),
+        }
+    }
+
+    // The open route at a place.
+    pub fn route_at(&self, place: usize) -> Route
+        requires { ⌜ place < length (state-of (now self) .routes) ⌝ }
+        ensures { λ r. ⌜ ((d : Route) → r ≡ getD (state-of (now (self .entry)) .routes) place d) ⌝ }
+    {
+        self.routes.line_at(place)
     }
 
     pub fn count_on(&self, side: Side) -> usize

@@ -1,4 +1,4 @@
--- The first quotation alone says whether any is better than a price.
+-- The first line says whether any is better.
 use mathlib.Core.Path.{_≡_, refl, sym, ap, _∙_}
 use mathlib.Core.Bool.{Bool, true, false, cond, not, _&&_, _||_}
 use mathlib.Core.List.{List, [], _∷_}
@@ -13,6 +13,7 @@ use Rattle.market.specs.declared.types.Side.the-variants.{Buy, Sell}
 use Rattle.market.specs.Sides.{ahead, quotation-before}
 use Rattle.market.specs.Steps.{any-better}
 
+-- behind a line that is not better than a price there is none
 none-better : (d : Side) (p : ℕ) (q : Quotation) (rs : List Quotation) → none-before (quotation-before d) q rs ≡ true → ahead d (q .price) p ≡ false → any-better d p rs ≡ false
 none-better d p q [] l b = refl
 none-better Buy p q (r ∷ rs) l b =

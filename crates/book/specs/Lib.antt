@@ -1,0 +1,4 @@
+pub mod Outcomes
+pub mod Houses
+pub mod Expiry
+pub mod Works
