@@ -11,7 +11,7 @@ use Rattle.market.specs.declared.types.Order.{Order}
 use Rattle.market.specs.Orders.{sharing, with-show, display, less, due, refresh, next-show, trimmed, with-shares, with-order-show, rested, routed, with-route-show, returned}
 use Rattle.market.specs.Reports.{rest-report}
 use Rattle.market.specs.Sound.{resting-fair}
-use Rattle.laws.specs.Equal.{line, route-line, hand-line}
+use Rattle.market.specs.Sheets.{line, route-line, hand-line}
 
 -- a next show is worked out again from a show cut to it, while held shares only lessen
 next-again : (a b : ℕ) (p : Resting) → b ≤ p .held → next-show (sharing a b p) ≡ next-show (sharing a b (line p))

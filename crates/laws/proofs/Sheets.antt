@@ -31,7 +31,8 @@ use Rattle.market.specs.Orders.{total, less, due, refresh, settled, traded, rem
 use Rattle.market.specs.Steps.{resting-near, quotation-near, no-route, side-full, ends, sends, trades, move-of, act}
 use Rattle.market.specs.Calls.{Pass, ready, ended, in-hand, reports, Outcome, refuse, checked, terms-refusal, numbers-refusal, enter-refusal, Place, either, find, cancel-at, cancel-refusal, cut-at, cut-refusal, replace-at, unrouted, hand-back, reply-at, late-reply-at, expire-from, held-by, stepped, work-call, when-ready, when-in-hand, when-ended, call}
 use Rattle.laws.specs.Strings.{Turn, does}
-use Rattle.laws.specs.Equal.{line, route-line, hand-line, sheet, seen, answers, Equal-answer-alike}
+use Rattle.market.specs.Sheets.{line, route-line, hand-line, sheet, seen}
+use Rattle.laws.specs.Equal.{answers, Equal-answer-alike}
 use Rattle.laws.proofs.Lines.{line-line, less-line, trimmed-line, refresh-line, hand-line-line, route-line-line, left-line, routed-line, returned-line, rested-line, rest-report-line}
 
 -- what a call lets be seen of its outcome, and the sheet that it leaves

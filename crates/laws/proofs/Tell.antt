@@ -30,7 +30,8 @@ use Rattle.market.specs.Reports.{refusal-number, trade-report, back-report}
 use Rattle.market.specs.Calls.{Pass, ready, ended, in-hand, Says, reports, refused, Outcome, refuse, hand-back, reply-at}
 use Rattle.market.specs.Sound.{resting-fair, Sound}
 use Rattle.laws.specs.Strings.{does}
-use Rattle.laws.specs.Equal.{line, route-line, hand-line, seen, Equal, Answer, answered, answers, Two-unused}
+use Rattle.market.specs.Sheets.{line, route-line, hand-line, seen, Equal}
+use Rattle.laws.specs.Equal.{Answer, answered, answers, Two-unused}
 use Rattle.laws.proofs.Lines.{drain, drain-same, drain-some, drain-most, drain-shows, next-most, next-none, same-line, same-route-line}
 use Rattle.laws.proofs.Rows.{Absent, Fit, Row, Rising, fair-absent, fair-unsent, side-fair, side-row, routes-rising}
 use Rattle.laws.proofs.Probes.{ask, asks, cancelled, takes-first, takes-second, takes-none, sweep, probe, swept, sweeps, Ground, after-above, ground-numbered, hits, works, misses, works-none, renewed, drained, drains}

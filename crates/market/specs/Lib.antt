@@ -10,3 +10,4 @@ pub mod Quotes
 pub mod Steps
 pub mod Calls
 pub mod Sound
+pub mod Sheets
