@@ -1,1 +1,4 @@
 pub mod Checks
+pub mod Calls
+pub mod Hands
+pub mod Runs
