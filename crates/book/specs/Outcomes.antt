@@ -7,6 +7,7 @@ use Rattle.std.specs.declared.option.Option.the-variants.{Some, None}
 use Rattle.std.specs.declared.result.Result.{Result}
 use Rattle.std.specs.declared.result.Result.the-variants.{Ok, Err}
 use Rattle.market.specs.declared.types.Call.{Call}
+use Rattle.market.specs.declared.types.Order.{Order}
 use Rattle.market.specs.declared.types.Report.{Report}
 use Rattle.market.specs.declared.types.Refusal.{Refusal}
 use Rattle.market.specs.declared.types.Refusal.the-variants.{WrongPass}
@@ -22,6 +23,22 @@ use Rattle.book.specs.declared.passes.Next.the-variants.{Done, More}
 
 abbrev pub book-state : Book → State
 book-state b = state-of (b .orders)
+
+-- the numbers that a book and its passes bear
+abbrev pub id-of : Book → ℕ
+id-of b = b .id
+
+abbrev pub ready-book : Ready → ℕ
+ready-book p = p .book
+
+abbrev pub hand-book : InHand → ℕ
+hand-book p = p .book
+
+abbrev pub ended-book : Ended → ℕ
+ended-book p = p .book
+
+abbrev pub order-of : InHand → Order
+order-of p = p .order
 
 -- a call, where own says that the pass is this book's: another book's pass is refusal 1, before all others
 abbrev pub own-call : Bool → Quotes → Call → State → Pass → Outcome

@@ -1,0 +1,2 @@
+// The order file.
+pub mod instructions;

@@ -1,0 +1,3 @@
+// A whole session, from the bytes of an order file to the text of its reports.
+pub mod desk;
+pub mod record;
