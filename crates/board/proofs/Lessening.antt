@@ -1,18 +1,16 @@
 -- Taking shares from a venue's line keeps what holds of the lines.
-use mathlib.Core.Path.{_≡_, refl, ap, _∙_}
-use mathlib.Core.Bool.{Bool, true, false, cond, _&&_}
+use mathlib.Core.Path.{_≡_, refl, _∙_}
+use mathlib.Core.Bool.{Bool, true, cond}
 use mathlib.Core.List.{List, [], _∷_}
-use Prim.Native.Nat.{ℕ, _-_, _≤_, _<_}
+use Prim.Native.Nat.{ℕ, _-_, _≤_}
 use native.Mathlib.Omega.{arith}
-use lib.Dec.{leb, eqb}
-use lib.ListN.{length}
+use lib.Dec.{eqb}
 use Rattle.std.proofs.shelf.Tests.{and-parts, and-from, cond-both}
 use Rattle.std.proofs.shelf.Ways.{tells}
 use Rattle.ranking.specs.Place.{every, in-rank}
 use Rattle.market.specs.declared.types.Side.{Side}
 use Rattle.market.specs.declared.types.Quotation.{Quotation}
 use Rattle.market.specs.Sides.{quotation-before}
-use Rattle.market.specs.Legal.{legal-price, legal-size, legal-venue}
 use Rattle.market.specs.States.{venue-is}
 use Rattle.market.specs.Quotes.{quotation-legal, one-a-venue, size-at, resized, lessened, Showable}
 use Rattle.board.proofs.Pairs.{pairwise, in-turn, apart, in-rank-by, venues-by}
@@ -53,9 +51,9 @@ module _ (v n : ℕ) where
       let less = resized (x .size - n) x in
       cond-both (venue-is v x) (cond (eqb (x .size) n) xs (less ∷ xs)) (x ∷ lessened v n xs) (λ l. every quotation-legal l ≡ true)
       (λ e.
-        let has : n ≤ x .size = rw e at enough in
-        cond-both (eqb (x .size) n) xs (less ∷ xs) (λ l. every quotation-legal l ≡ true) (λ _. both .1)
-        (λ k. let fair : quotation-legal less ≡ true = grind (arith, tells) in and-from (quotation-legal less) (every quotation-legal xs) fair (both .1)))
+      let has : n ≤ x .size = rw e at enough in
+      cond-both (eqb (x .size) n) xs (less ∷ xs) (λ l. every quotation-legal l ≡ true) (λ _. both .1)
+      (λ k. let fair : quotation-legal less ≡ true = grind (arith, tells) in and-from (quotation-legal less) (every quotation-legal xs) fair (both .1)))
       (λ e. and-from (quotation-legal x) (every quotation-legal (lessened v n xs)) (both .0) (legal-lessened xs (rw e at enough) (both .1)))
 
   pub showable-lessened : (d : Side) (xs : List Quotation) → n ≤ size-at v xs → Showable d xs → Showable d (lessened v n xs)

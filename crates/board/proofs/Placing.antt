@@ -1,19 +1,16 @@
 -- Placing a line of a venue that has none keeps what holds of the lines.
-use mathlib.Core.Path.{_≡_, refl, sym, ap, _∙_}
-use mathlib.Core.Bool.{Bool, true, false, cond, not, _&&_, _||_}
+use mathlib.Core.Path.{_≡_, refl}
+use mathlib.Core.Bool.{Bool, true, false}
 use mathlib.Core.List.{List, [], _∷_}
-use Prim.Native.Nat.{ℕ}
 use native.Mathlib.Omega.{arith}
-use lib.Dec.{eqb, ltb}
 use Rattle.std.proofs.shelf.Tests.{and-parts, and-from, cond-both}
 use Rattle.std.proofs.shelf.Ways.{tells}
-use Rattle.ranking.specs.Place.{every, place, in-rank}
+use Rattle.ranking.specs.Place.{every, place}
 use Rattle.ranking.proofs.Ranking.{place-in-rank}
 use Rattle.market.specs.declared.types.Side.{Side}
 use Rattle.market.specs.declared.types.Side.the-variants.{Buy, Sell}
 use Rattle.market.specs.declared.types.Quotation.{Quotation}
-use Rattle.market.specs.Sides.{ahead, quotation-before}
-use Rattle.market.specs.States.{venue-is}
+use Rattle.market.specs.Sides.{quotation-before}
 use Rattle.market.specs.Quotes.{quotation-legal, one-a-venue, Showable}
 use Rattle.board.proofs.Pairs.{apart}
 use Rattle.board.proofs.Dropping.{lacking}

@@ -22,9 +22,11 @@ use Rattle.market.specs.Orders.{total, less, refresh, trimmed, settled, traded 
 use Rattle.market.specs.Reports.{refusal-number}
 use Rattle.market.specs.Calls.{Pass, ready, ended, Says, reports, refused, Outcome, held-by, call}
 use Rattle.laws.specs.Strings.{Turn, does, state-after, pass-after, said}
-use Rattle.laws.specs.Happens.{Among, Happens, refusal, trading, sending, leaving, resting as to-rest, entering, cancelling, cutting, replacing, filling, returning, lapsing, closing, expiring}
+use Rattle.soundness.specs.Stands.{Among}
+use Rattle.laws.specs.Happens.{Happens, refusal, trading, sending, leaving, resting as to-rest, entering, cancelling, cutting, replacing, filling, returning, lapsing, closing, expiring}
 use Rattle.laws.specs.Conserve.{resting, sent-out, shares-in-hand, trade-shares, back-shares, off-shares, sum-said, traded, filled-away, taken-off, entered-by, entered, holds, Shares-conserved}
-use Rattle.laws.proofs.Orders.{refresh-total, settled-by, less-total, trimmed-total, rested-total}
+use Rattle.soundness.proofs.Trades.{settled-by}
+use Rattle.laws.proofs.Orders.{refresh-total, less-total, trimmed-total, rested-total}
 use Rattle.laws.proofs.Happens.{nothing-else}
 
 -- lists
@@ -54,7 +56,7 @@ sent-among xs p e = ap sent-out e ∙ sent-append (p .front) (p .line ∷ p .res
 resting-settled : (d : Side) (p : Resting) (ps : List Resting) → resting (settled d p ps) ≡ total p + resting ps
 resting-settled d p ps =
     settled-by d p ps (λ l. resting l ≡ total p + resting ps)
-    (λ _. let e = resting-place (resting-before d) (refresh p) ps in let t = refresh-total p in omega arith) (λ y z. omega arith) refl
+    (λ _. let e = resting-place (resting-before d) (refresh p) ps in let t = refresh-total p in omega arith) (λ y z. omega arith) (λ _. refl)
 
 resting-traded : (d : Side) (k : ℕ) (p : Resting) (ps : List Resting) → Some p ≡ head-of ps → k ≤ p .shown → resting (after-trade d k ps) + k ≡ resting ps
 resting-traded d k p [] e l = let z : _≡_ {A = ℕ} 0 1 = cc in omega arith
@@ -87,33 +89,33 @@ abbrev pub leaves : Says → ℕ
 leaves x = 2 * traded (x ∷ []) + filled-away (x ∷ []) + taken-off (x ∷ [])
 
 pub conserves : (s : State) (q : Quotes) {c : Call} {p : Pass} {o : Outcome} → Happens s q c p o → holds s p + entered-by c (o .says) ≡ holds (o .state) (o .pass) + leaves (o .says)
-conserves s q (refusal {c = c} why) = omega (arith, none-entered c (refusal-number why))
-conserves s q (trading {o = o} x f) =
+conserves s q (refusal {c = c} why z) = omega (arith, none-entered c (refusal-number why))
+conserves s q (trading {o = o} x g f z) =
     let d : Side = across-of (o .side) in
     let k : ℕ = min (o .shares) (x .shown) in
     let l : List Resting = after-trade d k (on d s) in
     omega (arith, resting-traded d k x (on d s) f (omega arith), left-in-hand k o (omega arith), holds-put d l s (held-by (remaining k o)))
-conserves s q (sending {o = o} x f ne) =
+conserves s q (sending {o = o} x g z) =
     let k : ℕ = min (o .shares) (x .size) in
     omega (arith, sent-place route-before (routed o x (s .next) k) (s .routes), left-in-hand k o (omega arith))
-conserves s q (leaving why l) = omega arith
-conserves s q (to-rest {o = o} f) =
+conserves s q (leaving why g z) = omega arith
+conserves s q (to-rest {o = o} g z) =
     let l : List Resting = place (resting-before (o .side)) (rested o) (on (o .side) s) in
     omega (arith, resting-place (resting-before (o .side)) (rested o) (on (o .side) s), rested-total o, holds-put (o .side) l s ready)
-conserves s q (entering ne) = omega arith
-conserves s q (cancelling p e) =
+conserves s q (entering z) = omega arith
+conserves s q (cancelling p e z) =
     omega (arith, holds-put (p .side) (p .spot .front ++ p .spot .rest) s ready, resting-append (p .spot .front) (p .spot .rest), resting-among (on (p .side) s) (p .spot) e)
-conserves s q (cutting {k = k} p e l) =
+conserves s q (cutting {k = k} p e z l) =
     let l′ : k ≤ total (p .spot .line) = omega arith in
     let x : Resting = trimmed k (p .spot .line) in
     omega (arith, trimmed-total k (p .spot .line) l′, holds-put (p .side) (p .spot .front ++ x ∷ p .spot .rest) s ready, resting-append (p .spot .front) (x ∷ p .spot .rest), resting-among (on (p .side) s) (p .spot) e)
-conserves s q (replacing {t = t} p e ne) =
+conserves s q (replacing {t = t} p e z g ne) =
     omega (arith, holds-put (p .side) (p .spot .front ++ p .spot .rest) s ready, resting-append (p .spot .front) (p .spot .rest), resting-among (on (p .side) s) (p .spot) e)
-conserves s q (filling p r e l) = omega (arith, sent-among (s .routes) r e, sent-append (r .front) (r .rest))
-conserves s q (returning r e l) = omega (arith, sent-among (s .routes) r e, sent-append (r .front) (r .rest))
-conserves s q (lapsing r e l) = omega (arith, sent-among (s .routes) r e, sent-append (r .front) (r .rest))
+conserves s q (filling p r g e z l) = omega (arith, sent-among (s .routes) r e, sent-append (r .front) (r .rest))
+conserves s q (returning r e z l) = omega (arith, sent-among (s .routes) r e, sent-append (r .front) (r .rest))
+conserves s q (lapsing r e z l) = omega (arith, sent-among (s .routes) r e, sent-append (r .front) (r .rest))
 conserves s q closing = omega arith
-conserves s q (expiring d x xs e) = omega (arith, ap resting e, holds-put d xs s ended)
+conserves s q (expiring d x xs e z) = omega (arith, ap resting e, holds-put d xs s ended)
 
 -- one call
 pub call-conserves : (q : Quotes) (c : Call) (s : State) (p : Pass) → holds s p + entered-by c (call q c s p .says) ≡ holds (call q c s p .state) (call q c s p .pass) + leaves (call q c s p .says)

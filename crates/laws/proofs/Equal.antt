@@ -25,6 +25,7 @@ equal-or-told-apart s s′ z z′ u u′ =
     elim (told s s′ z z′ u u′) [ inl e ↦ inl e | inr w ↦ inr (differ (length (s .buys) + length (s .sells) + 3) _ s s′ (omega arith) w) ]
 
 pub equal-exactly : Equal-exactly
-equal-exactly s s′ z z′ u u′ =
-    (λ e ts _. equal-answer-alike s s′ e ts,
-     λ alike. elim (equal-or-told-apart s s′ z z′ u u′) [ inl e ↦ e | inr w ↦ absurd (w .3 (alike (w .0) (w .1))) ])
+equal-exactly s s′ z z′ u u′ = (
+  λ e ts _. equal-answer-alike s s′ e ts,
+  λ alike. elim (equal-or-told-apart s s′ z z′ u u′) [ inl e ↦ e | inr w ↦ absurd (w .3 (alike (w .0) (w .1))) ],
+)

@@ -6,6 +6,9 @@ pub mod Tell
 pub mod Equal
 pub mod Orders
 pub mod Happens
+pub mod Reports
+pub mod Dealings
+pub mod Reached
 pub mod Conserve
 pub mod Apart
 pub mod Priority

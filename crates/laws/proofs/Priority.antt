@@ -1,40 +1,45 @@
 -- Time priority: an order that rests with nothing held back stays ahead of every latecomer at its side and price, until it is gone.
 use mathlib.Core.Path.{_≡_, refl, sym, ap, subst, _∙_}
-use mathlib.Core.Bool.{Bool, true, false, cond, not, _&&_, _||_}
+use mathlib.Core.Bool.{Bool, true, false, cond, _&&_, _||_}
 use mathlib.Core.List.{List, [], _∷_, _++_}
 use mathlib.Core.Logic.{_≢_, _⊎_, inl, inr}
 use Prim.Native.Nat.{ℕ, _+_, _-_, _≤_, _<_, min}
 use native.Mathlib.Omega.{arith}
 use lib.Dec.{ltb, eqb}
 use Rattle.std.proofs.shelf.Ways.{tells}
-use Rattle.std.proofs.shelf.Tests.{cond-both, both-ways, and-parts, not-true, ltb-true, ltb-false, le-ltb, eq-eqb}
+use Rattle.std.proofs.shelf.Tests.{cond-both, ltb-true, ltb-false, le-ltb, eq-eqb}
 use Rattle.std.specs.declared.option.Option.the-variants.{Some}
-use Rattle.ranking.specs.Place.{Spot, every, place, head-of}
+use Rattle.ranking.specs.Place.{Spot, place, head-of}
 use Rattle.market.specs.declared.types.Side.{Side}
 use Rattle.market.specs.declared.types.Side.the-variants.{Buy, Sell}
 use Rattle.market.specs.declared.types.Resting.{Resting}
 use Rattle.market.specs.declared.types.Report.{Report}
-use Rattle.market.specs.declared.types.What.{What}
-use Rattle.market.specs.declared.types.What.the-variants.{In, Trade, Sent, Rest, Off, Back}
+use Rattle.market.specs.declared.types.What.the-variants.{Rest}
 use Rattle.market.specs.declared.types.Call.{Call}
 use Rattle.market.specs.Sides.{across-of, ahead, resting-before}
 use Rattle.market.specs.States.{State, Quotes, new-state, on, put}
 use Rattle.market.specs.Orders.{less, refresh, trimmed, settled, traded, rested}
 use Rattle.market.specs.Reports.{rest-report}
-use Rattle.market.specs.Calls.{Pass, ready, Says, reports, refused, Outcome, call}
+use Rattle.market.specs.Calls.{Pass, ready, Outcome, call}
+use Rattle.soundness.specs.Stands.{Among as Among-lines}
 use Rattle.laws.specs.Strings.{Turn, does, state-after, pass-after}
-use Rattle.laws.specs.Happens.{Among as Among-lines, Happens, refusal, trading, sending, leaving, resting, entering, cancelling, cutting, replacing, filling, returning, lapsing, closing, expiring}
-use Rattle.laws.specs.Priority.{same-side, Among, Reported, lost, ousted, Stays, held-of, later, latecomers, In-list, Time-priority}
-use Rattle.laws.proofs.Orders.{refresh-number, settled-by, trimmed-bare}
+use Rattle.laws.specs.Happens.{Happens, refusal, trading, sending, leaving, resting, entering, cancelling, cutting, replacing, filling, returning, lapsing, closing, expiring}
+use Rattle.laws.specs.Priority.{same-side, lost, ousted, Stays, held-of, later, latecomers, In-list, Time-priority}
+use Rattle.soundness.proofs.Lists.{Absent}
+use Rattle.soundness.proofs.Trades.{due-holds, settled-by}
+use Rattle.laws.proofs.Orders.{trimmed-bare}
 use Rattle.laws.proofs.Happens.{nothing-else}
-use Rattle.laws.proofs.Apart.{Absent, Apart, sides, same-self, put-here, put-there, absent-parts, apart-parts, free-absent, apart-after, apart-new}
+use Rattle.laws.proofs.Reports.{Each, is-rest, silent, alone}
+use Rattle.laws.proofs.Dealings.{no-trade-through}
+use Rattle.laws.proofs.Apart.{Apart, sides, same-self, put-here, put-there, absent-parts, apart-parts, fits-absent, apart-after, apart-new}
 
--- the order n: at the price x, with at least r shares displayed and none held back
-pub record Own (n x r : ℕ) (p : Resting) : Type 0 where
+-- the order n: at the price x, with at least r shares displayed and none held back, and itself no latecomer
+pub record Own (n x r : ℕ) (late : List ℕ) (p : Resting) : Type 0 where
   pub named : p .number ≡ n
   pub priced : p .price ≡ x
   pub shows : r ≤ p .shown
   pub bare : p .held ≡ 0
+  pub fresh : In-list n late → ⊥
 
 -- an order that may stand before n: not at a worse price, and at the price x not a latecomer
 pub record Elder (d : Side) (n x : ℕ) (late : List ℕ) (p : Resting) : Type 0 where
@@ -45,7 +50,7 @@ pub record Elder (d : Side) (n x : ℕ) (late : List ℕ) (p : Resting) : Type 0
 -- n stands, and before it only elders
 abbrev pub Firm : Side → ℕ → ℕ → ℕ → List ℕ → List Resting → Type 0
 Firm d n x r late [] = ⊥
-Firm d n x r late (p ∷ ps) = Own n x r p ⊎ (Elder d n x late p × Firm d n x r late ps)
+Firm d n x r late (p ∷ ps) = Own n x r late p ⊎ (Elder d n x late p × Firm d n x r late ps)
 
 -- prices
 ahead-not : (d : Side) (x k p : ℕ) → ahead d k p ≡ true → ahead d x p ≡ false → (ahead d x k ≡ false) × (k ≡ x → ⊥)
@@ -63,18 +68,20 @@ ahead-self Buy x = le-ltb x x (omega arith)
 ahead-self Sell x = le-ltb x x (omega arith)
 
 module _ (d : Side) (n x : ℕ) where
-  own-less : (r r′ : ℕ) (p : Resting) → r′ ≤ r → Own n x r p → Own n x r′ p
-  own-less r r′ p l o = record { named = o .named; priced = o .priced; shows = let s : r ≤ p .shown = o .shows in omega arith; bare = o .bare }
+  own-less : (r r′ : ℕ) (late : List ℕ) (p : Resting) → r′ ≤ r → Own n x r late p → Own n x r′ late p
+  own-less r r′ late p l o = record { named = o .named; priced = o .priced; shows = let s : r ≤ p .shown = o .shows in omega arith; bare = o .bare; fresh = o .fresh }
 
   firm-less : (r r′ : ℕ) (late : List ℕ) (ps : List Resting) → r′ ≤ r → Firm d n x r late ps → Firm d n x r′ late ps
   firm-less r r′ late [] l f = f
-  firm-less r r′ late (p ∷ ps) l (inl o) = inl (own-less r r′ p l o)
+  firm-less r r′ late (p ∷ ps) l (inl o) = inl (own-less r r′ late p l o)
   firm-less r r′ late (p ∷ ps) l (inr (e, f)) = inr (e, firm-less r r′ late ps l f)
 
   -- one latecomer more, which stands nowhere yet
   firm-late : (r m : ℕ) (late : List ℕ) (ps : List Resting) → Absent m ps → Firm d n x r late ps → Firm d n x r (m ∷ late) ps
   firm-late r m late [] h f = f
-  firm-late r m late (p ∷ ps) h (inl o) = inl o
+  firm-late r m late (p ∷ ps) h (inl o) =
+      let w = absent-parts m p ps h in
+      inl (record { named = o .named; priced = o .priced; shows = o .shows; bare = o .bare; fresh = λ y. elim y [ inl u ↦ w .0 (o .named ∙ sym u) | inr u ↦ o .fresh u ] })
   firm-late r m late (p ∷ ps) h (inr (e, f)) =
       let w = absent-parts m p ps h in
       inr (record { other = e .other; rank = e .rank; early = λ z y. elim y [ inl u ↦ w .0 (sym u) | inr u ↦ e .early z u ] }, firm-late r m late ps (w .1) f)
@@ -104,39 +111,42 @@ module _ (d : Side) (n x : ℕ) where
   firm-without r late (p ∷ ps) l rest ne (inr (e, f)) = inr (e, firm-without r late ps l rest ne f)
 
   -- one is changed where it rests
-  firm-changed : (r r′ : ℕ) (late : List ℕ) (front : List Resting) (l l′ : Resting) (rest : List Resting) → r′ ≤ r → l′ .number ≡ l .number → l′ .price ≡ l .price → (Own n x r l → Own n x r′ l′) → Firm d n x r late (front ++ l ∷ rest) → Firm d n x r′ late (front ++ l′ ∷ rest)
+  firm-changed : (r r′ : ℕ) (late : List ℕ) (front : List Resting) (l l′ : Resting) (rest : List Resting) → r′ ≤ r → l′ .number ≡ l .number → l′ .price ≡ l .price → (Own n x r late l → Own n x r′ late l′) → Firm d n x r late (front ++ l ∷ rest) → Firm d n x r′ late (front ++ l′ ∷ rest)
   firm-changed r r′ late [] l l′ rest le e f own (inl o) = inl (own o)
   firm-changed r r′ late [] l l′ rest le e f own (inr (y, g)) =
       inr (record { other = rw e (y .other); rank = rw f (y .rank); early = rw (e, f) (y .early) }, firm-less r r′ late rest le g)
-  firm-changed r r′ late (p ∷ ps) l l′ rest le e f own (inl o) = inl (own-less r r′ p le o)
+  firm-changed r r′ late (p ∷ ps) l l′ rest le e f own (inl o) = inl (own-less r r′ late p le o)
   firm-changed r r′ late (p ∷ ps) l l′ rest le e f own (inr (y, g)) = inr (y, firm-changed r r′ late ps l l′ rest le e f own g)
 
-  -- what stands first is n, or no latecomer at its price
-  firm-first : (r : ℕ) (late : List ℕ) (y : Resting) (ps : List Resting) → Some y ≡ head-of ps → Firm d n x r late ps → y .price ≡ x → y .number ≢ n → In-list (y .number) late → ⊥
-  firm-first r late y [] h f p ne i = f
-  firm-first r late y (z ∷ zs) h (inl o) p ne i = let same : y ≡ z = cc in ne (ap (λ (w : Resting). w .number) same ∙ o .named)
-  firm-first r late y (z ∷ zs) h (inr (e, f)) p ne i = let same : z ≡ y = cc in subst (λ (w : Resting). w .price ≡ x → In-list (w .number) late → ⊥) same (e .early) p i
+  -- what stands first is no latecomer at its price
+  firm-first : (r : ℕ) (late : List ℕ) (y : Resting) (ps : List Resting) → Some y ≡ head-of ps → Firm d n x r late ps → y .price ≡ x → In-list (y .number) late → ⊥
+  firm-first r late y [] h f p i = f
+  firm-first r late y (z ∷ zs) h (inl o) p i =
+      let same : y ≡ z = cc in
+      let e : y .number ≡ n = ap (λ (w : Resting). w .number) same ∙ o .named in
+      o .fresh (subst (λ (m : ℕ). In-list m late) e i)
+  firm-first r late y (z ∷ zs) h (inr (e, f)) p i = let same : z ≡ y = cc in subst (λ (w : Resting). w .price ≡ x → In-list (w .number) late → ⊥) same (e .early) p i
 
 -- where an order comes to rest, only elders stand before it
 firm-new : (d : Side) (a : Resting) (ps : List Resting) → Absent (a .number) ps → a .held ≡ 0 → Firm d (a .number) (a .price) (a .shown) [] (place (resting-before d) a ps)
-firm-new d a [] h z = inl (record { named = refl; priced = refl; shows = omega arith; bare = z })
+firm-new d a [] h z = inl (record { named = refl; priced = refl; shows = omega arith; bare = z; fresh = λ y. y })
 firm-new d a (p ∷ ps) h z =
     let w = absent-parts (a .number) p ps h in
     cond-both (ahead d (a .price) (p .price)) _ _ (λ l. Firm d (a .number) (a .price) (a .shown) [] l)
-    (λ t. inl (record { named = refl; priced = refl; shows = omega arith; bare = z }))
+    (λ t. inl (record { named = refl; priced = refl; shows = omega arith; bare = z; fresh = λ y. y }))
     (λ t. inr (record { other = w .0; rank = t; early = λ _ y. y }, firm-new d a ps (w .1) z))
 
 -- a trade of k shares with the first order
 firm-settled : (d : Side) (n x r k : ℕ) (late : List ℕ) (p : Resting) (ps : List Resting) → Absent (p .number) ps → Firm d n x r late (p ∷ ps) → cond (eqb (p .number) n) k 0 + 0 < r → Firm d n x (r - (cond (eqb (p .number) n) k 0 + 0)) (cond (ltb (held-of (p .number) (settled d (less k p) ps)) (p .held)) (p .number ∷ late) late) (settled d (less k p) ps)
 firm-settled d n x r k late p ps a f small =
     settled-by d (less k p) ps Good
-    (λ some. cond-both (ltb (held-of (p .number) (place (resting-before d) (refresh (less k p)) ps)) (p .held)) _ _ (λ l. Firm d n x (r - v) l (place (resting-before d) (refresh (less k p)) ps))
-    (λ _. behind (p .number ∷ late) (firm-late d n x r (p .number) late ps a) some f)
-    (λ _. behind late (λ g. g) some f))
+    (λ t. cond-both (ltb (held-of (p .number) (place (resting-before d) (refresh (less k p)) ps)) (p .held)) _ _ (λ l. Firm d n x (r - v) l (place (resting-before d) (refresh (less k p)) ps))
+    (λ _. behind (p .number ∷ late) (firm-late d n x r (p .number) late ps a) (due-holds (less k p) t) f)
+    (λ _. behind late (λ g. g) (due-holds (less k p) t) f))
     (λ gone none. subst (λ (l : List ℕ). Firm d n x (r - v) l ps) (sym (empty none)) (spent gone f))
-    (subst (λ (l : List ℕ). Firm d n x (r - v) l (less k p ∷ ps)) (sym quiet)
+    (λ _. subst (λ (l : List ℕ). Firm d n x (r - v) l (less k p ∷ ps)) (sym quiet)
     (firm-changed d n x r (r - v) late [] p (less k p) ps (omega arith) refl refl
-    (λ o. record { named = o .named; priced = o .priced; shows = let s : r ≤ p .shown = o .shows in rw (eq-eqb (p .number) n (o .named)) (omega arith); bare = o .bare }) f))
+    (λ o. record { named = o .named; priced = o .priced; shows = let s : r ≤ p .shown = o .shows in rw (eq-eqb (p .number) n (o .named)) (omega arith); bare = o .bare; fresh = o .fresh }) f))
   where
     v : ℕ
     v = cond (eqb (p .number) n) k 0 + 0
@@ -160,7 +170,7 @@ firm-settled d n x r k late p ps a f small =
     behind : (late′ : List ℕ) → (Firm d n x r late ps → Firm d n x r late′ ps) → p .held ≢ 0 → Firm d n x r late (p ∷ ps) → Firm d n x (r - v) late′ (place (resting-before d) (refresh (less k p)) ps)
     behind late′ more some (inl o) = absurd (some (o .bare))
     behind late′ more some (inr (e, g)) =
-        firm-less d n x r (r - v) late′ (place (resting-before d) (refresh (less k p)) ps) (omega arith) (firm-place d n x r late′ (refresh (less k p)) ps (rw (refresh-number (less k p)) (e .other)) (more g))
+        firm-less d n x r (r - v) late′ (place (resting-before d) (refresh (less k p)) ps) (omega arith) (firm-place d n x r late′ (refresh (less k p)) ps (e .other) (more g))
 
 -- what a call does to one who stays ahead
 pub record Keeps (d : Side) (n x r : ℕ) (late : List ℕ) (s : State) (o : Outcome) : Type 0 where
@@ -204,44 +214,44 @@ module _ (n x r : ℕ) (late : List ℕ) (s : State) where
       firm-changed d n x r _ late (w .front) (w .line) (trimmed k (w .line)) (w .rest) (omega arith) refl refl
       (λ o. let t = trimmed-bare k (w .line) (o .bare) in
       let z : r ≤ w .line .shown = o .shows in
-      record { named = o .named; priced = o .priced; shows = rw (eq-eqb (w .line .number) n (o .named), t .1) (omega arith); bare = t .0 })
+      record { named = o .named; priced = o .priced; shows = rw (eq-eqb (w .line .number) n (o .named), t .1) (omega arith); bare = t .0; fresh = o .fresh })
       (subst (Firm d n x r late) e f)
 
   happens-keeps : (d : Side) (q : Quotes) {c : Call} {p : Pass} {o : Outcome} → Happens s q c p o → Keeps d n x r late s o
-  happens-keeps d q (refusal why) = unmoved d _ refl refl
-  happens-keeps d q (trading {o = o} y g) =
+  happens-keeps d q (refusal why z) = unmoved d _ refl refl
+  happens-keeps d q (trading {o = o} y z g v) =
       let e : Side = across-of (o .side) in
       let k : ℕ = min (o .shares) (y .shown) in
       let ps : List Resting = traded e k (on e s) in
       by-side d e _
       (record { firm = λ a f _ l. rw (same-self e, put-here e ps s) (firm-traded e k y (on e s) g a f (rw (same-self e) at l)) })
       (λ h. unmoved d _ (put-there d e ps s h) (rw h))
-  happens-keeps d q (sending y f ne) = unmoved d _ refl refl
-  happens-keeps d q (leaving why l) = unmoved d _ refl refl
-  happens-keeps d q (resting {o = o} g) =
+  happens-keeps d q (sending y g z) = unmoved d _ refl refl
+  happens-keeps d q (leaving why g z) = unmoved d _ refl refl
+  happens-keeps d q (resting {o = o} g z) =
       let e : Side = o .side in
       let m : ℕ = o .number in
       let ps : List Resting = place (resting-before e) (rested o) (on e s) in
-      let a : Absent m (on e s) = free-absent m s e g in
+      let a : Absent m (on e s) = fits-absent m s e g in
       by-side d e _
       (record { firm = λ _ f _ _. rw (same-self e, put-here e ps s) (firm-less e n x r _ (m ∷ late) ps (omega arith) (firm-place e n x r (m ∷ late) (rested o) (on e s) (firm-absent e n x r m late (on e s) a f) (firm-late e n x r m late (on e s) a f))) })
       (λ h. unmoved d _ (put-there d e ps s h) (rw h))
-  happens-keeps d q (entering ne) = unmoved d _ refl refl
-  happens-keeps d q (cancelling p e) =
+  happens-keeps d q (entering z) = unmoved d _ refl refl
+  happens-keeps d q (cancelling p e z) =
       takes d (p .side) (p .spot) _ e (λ _. refl) (λ _. refl) (not-named (same-side (p .side) (p .side)) (p .spot .line .number) n (same-self (p .side)))
-  happens-keeps d q (cutting {k = k} p g l) =
+  happens-keeps d q (cutting {k = k} p g z l) =
       let e : Side = p .side in
       let ps : List Resting = p .spot .front ++ trimmed k (p .spot .line) ∷ p .spot .rest in
       by-side d e _
       (record { firm = λ _ f _ _. rw (same-self e, put-here e ps s) (firm-trimmed e k (p .spot) (on e s) g f) })
       (λ h. unmoved d _ (put-there d e ps s h) refl)
-  happens-keeps d q (replacing p e ne) =
+  happens-keeps d q (replacing p e z g ne) =
       takes d (p .side) (p .spot) _ e (λ _. refl) (λ _. refl) (not-named (same-side (p .side) (p .side)) (p .spot .line .number) n (same-self (p .side)))
-  happens-keeps d q (filling p y e l) = unmoved d _ refl refl
-  happens-keeps d q (returning y e l) = unmoved d _ refl refl
-  happens-keeps d q (lapsing y e l) = unmoved d _ refl refl
+  happens-keeps d q (filling p y g e z l) = unmoved d _ refl refl
+  happens-keeps d q (returning y e z l) = unmoved d _ refl refl
+  happens-keeps d q (lapsing y e z l) = unmoved d _ refl refl
   happens-keeps d q closing = unmoved d _ refl refl
-  happens-keeps d q (expiring e y ys f) =
+  happens-keeps d q (expiring e y ys f z) =
       takes d e (record { front = []; line = y; rest = ys }) _ f (λ _. refl) (λ _. refl) (not-named (same-side e e) (y .number) n (same-self e))
 
 -- one call
@@ -256,92 +266,30 @@ stays-ahead-after (t ∷ ts) s p d n x r late a f g =
     stays-ahead-after ts (o .state) (o .pass) d n x (r - lost d n (o .says)) (later d (on d s) (on d (o .state)) (o .says) late)
     (apart-after d (t ∷ []) s p a) (stays-ahead (t .quotes) (t .call) s p d n x r late a f (g .0) (g .1)) (g .2)
 
--- each report of a kind has the property
-pub record Each (k : What) (P : Report → Type 0) (y : Says) : Type 0 where
-  pub each : (x : Report) → Reported x y → x .what ≡ k → P x
-
-abbrev is-trade : What → Bool
-is-trade Trade = true
-is-trade In = false
-is-trade Sent = false
-is-trade Rest = false
-is-trade Off = false
-is-trade Back = false
-
-abbrev is-rest : What → Bool
-is-rest Rest = true
-is-rest In = false
-is-rest Trade = false
-is-rest Sent = false
-is-rest Off = false
-is-rest Back = false
-
-abbrev none-said : (What → Bool) → Says → Bool
-none-said t (reports rs) = every (λ r. not (t (r .what))) rs
-none-said t (refused m) = true
-
-none-among : (t : What → Bool) (rs : List Report) → every (λ r. not (t (r .what))) rs ≡ true → (x : Report) → Among x rs → t (x .what) ≡ true → ⊥
-none-among t [] h x w e = w
-none-among t (r ∷ rs) h x w e =
-    let p = and-parts (not (t (r .what))) (every (λ y. not (t (y .what))) rs) h in
-    elim w [ inl z ↦ both-ways (t (r .what)) (not-true (t (r .what)) (p .0)) (ap (λ (y : Report). t (y .what)) z ∙ e) | inr v ↦ none-among t rs (p .1) x v e ]
-
--- no report of the kind
-silent : (t : What → Bool) {k : What} {P : Report → Type 0} {y : Says} → t k ≡ true → none-said t y ≡ true → Each k P y
-silent t {y = reports rs} h e = record { each = λ x w z. absurd (none-among t rs e x w (ap t z ∙ h)) }
-silent t {y = refused m} h e = record { each = λ x w z. absurd w }
-
--- one report
-alone : {k : What} {P : Report → Type 0} (r : Report) → P r → Each k P (reports (r ∷ []))
-alone {P = P} r h = record { each = λ x w z. elim w [ inl v ↦ subst P v h | inr v ↦ absurd v ] }
-
--- a trade takes the first resting order across
-pub record Takes (s : State) (x : Report) : Type 0 where
-  pub taken : Resting
-  pub first : Some taken ≡ head-of (on (across-of (x .side)) s)
-  pub named : taken .number ≡ x .other
-  pub priced : taken .price ≡ x .price
-
-pub trade-takes : (s : State) (q : Quotes) {c : Call} {p : Pass} {o : Outcome} → Happens s q c p o → Each Trade (Takes s) (o .says)
-trade-takes s q (trading y f) = alone _ (record { taken = y; first = f; named = refl; priced = refl })
-trade-takes s q (refusal why) = silent is-trade refl refl
-trade-takes s q (sending y f ne) = silent is-trade refl refl
-trade-takes s q (leaving why l) = silent is-trade refl refl
-trade-takes s q (resting f) = silent is-trade refl refl
-trade-takes s q (entering ne) = silent is-trade refl refl
-trade-takes s q (cancelling p f) = silent is-trade refl refl
-trade-takes s q (cutting p f l) = silent is-trade refl refl
-trade-takes s q (replacing p f ne) = silent is-trade refl refl
-trade-takes s q (filling p r f l) = silent is-trade refl refl
-trade-takes s q (returning r f l) = silent is-trade refl refl
-trade-takes s q (lapsing r f l) = silent is-trade refl refl
-trade-takes s q closing = silent is-trade refl refl
-trade-takes s q (expiring d y ys f) = silent is-trade refl refl
-
 -- an order reported to rest with nothing held back has only elders before it
 abbrev pub Stands-firm : State → Report → Type 0
 Stands-firm s r = r .held ≡ 0 → Firm (r .side) (r .number) (r .price) (r .shares) [] (on (r .side) s)
 
 pub rest-firm : (s : State) (q : Quotes) {c : Call} {p : Pass} {o : Outcome} → Happens s q c p o → Each Rest (Stands-firm (o .state)) (o .says)
-rest-firm s q (resting {o = o} f) =
+rest-firm s q (resting {o = o} f z) =
     alone (rest-report o)
-    (λ none. rw (put-here (o .side) (place (resting-before (o .side)) (rested o) (on (o .side) s)) s) (firm-new (o .side) (rested o) (on (o .side) s) (free-absent (o .number) s (o .side) f) none))
-rest-firm s q (refusal why) = silent is-rest refl refl
-rest-firm s q (trading y f) = silent is-rest refl refl
-rest-firm s q (sending y f ne) = silent is-rest refl refl
-rest-firm s q (leaving why l) = silent is-rest refl refl
-rest-firm s q (entering ne) = silent is-rest refl refl
-rest-firm s q (cancelling p f) = silent is-rest refl refl
-rest-firm s q (cutting p f l) = silent is-rest refl refl
-rest-firm s q (replacing p f ne) = silent is-rest refl refl
-rest-firm s q (filling p y f l) = silent is-rest refl refl
-rest-firm s q (returning y f l) = silent is-rest refl refl
-rest-firm s q (lapsing y f l) = silent is-rest refl refl
+    (λ none. rw (put-here (o .side) (place (resting-before (o .side)) (rested o) (on (o .side) s)) s) (firm-new (o .side) (rested o) (on (o .side) s) (fits-absent (o .number) s (o .side) f) none))
+rest-firm s q (refusal why z) = silent is-rest refl refl
+rest-firm s q (trading y g f z) = silent is-rest refl refl
+rest-firm s q (sending y g z) = silent is-rest refl refl
+rest-firm s q (leaving why g z) = silent is-rest refl refl
+rest-firm s q (entering z) = silent is-rest refl refl
+rest-firm s q (cancelling p f z) = silent is-rest refl refl
+rest-firm s q (cutting p f z l) = silent is-rest refl refl
+rest-firm s q (replacing p f z g ne) = silent is-rest refl refl
+rest-firm s q (filling p y g f z l) = silent is-rest refl refl
+rest-firm s q (returning y f z l) = silent is-rest refl refl
+rest-firm s q (lapsing y f z l) = silent is-rest refl refl
 rest-firm s q closing = silent is-rest refl refl
-rest-firm s q (expiring d y ys f) = silent is-rest refl refl
+rest-firm s q (expiring d y ys f z) = silent is-rest refl refl
 
 pub time-priority : Time-priority
-time-priority n ts₀ t ts u r x _ rests is-r bare stays trades is-x across price other late =
+time-priority n ts₀ t ts u r x rests is-r bare stays trades is-x across price late =
     let s₀ : State = state-after ts₀ (new-state n) ready in
     let p₀ : Pass = pass-after ts₀ (new-state n) ready in
     let s₁ : State = does t s₀ p₀ .state in
@@ -353,6 +301,7 @@ time-priority n ts₀ t ts u r x _ rests is-r bare stays trades is-x across pric
     let a₁ : Apart (on d s₁) = apart-after d (t ∷ []) s₀ p₀ a₀ in
     let f₁ = rest-firm s₀ (t .quotes) (nothing-else (t .quotes) (t .call) s₀ p₀) .each r rests is-r bare in
     let f₂ = stays-ahead-after ts s₁ p₁ d (r .number) (r .price) (r .shares) [] a₁ f₁ stays in
-    let y = trade-takes s₂ (u .quotes) (nothing-else (u .quotes) (u .call) s₂ p₂) .each x trades is-x in
-    firm-first d (r .number) (r .price) (f₂ .0) (latecomers d [] ts s₁ p₁) (y .taken) (on d s₂) (rw across at (y .first)) (f₂ .1)
-    (y .priced ∙ price) (λ z. other (sym (y .named) ∙ z)) (rw (sym (y .named)) at late)
+    let y = no-trade-through (u .quotes) (u .call) s₂ p₂ x trades is-x in
+    let e : across-of (y .order .side) ≡ d = ap across-of (sym (y .told .0)) ∙ across in
+    firm-first d (r .number) (r .price) (f₂ .0) (latecomers d [] ts s₁ p₁) (y .taken) (on d s₂) (rw e at (y .first)) (f₂ .1)
+    (sym (y .told .1) ∙ price) (rw (y .told .2) at late)

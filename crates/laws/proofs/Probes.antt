@@ -6,7 +6,6 @@ use Prim.Native.Nat.{ℕ, _+_, _≤_, _<_, min}
 use native.Mathlib.Omega.{arith}
 use lib.Dec.{eqb}
 use Rattle.std.proofs.shelf.Tests.{and-parts, and-from, not-true, eq-eqb, ne-eqb, le-leb}
-use Rattle.std.proofs.shelf.Ways.{tells}
 use Rattle.std.specs.declared.option.Option.the-variants.{None}
 use Rattle.ranking.specs.Place.{every, locate}
 use Rattle.market.specs.declared.types.Side.{Side}
@@ -31,7 +30,8 @@ use Rattle.market.specs.Calls.{ready, in-hand, Outcome, refuse, answer, admit, 
 use Rattle.market.specs.Sound.{resting-fair}
 use Rattle.laws.specs.Strings.{Turn, Playable, does}
 use Rattle.laws.proofs.Lines.{drain, drain-most, drain-due}
-use Rattle.laws.proofs.Rows.{Absent, Unsent}
+use Rattle.soundness.proofs.Lists.{Absent, Unsent}
+use Rattle.soundness.proofs.Keeps.{given-next}
 
 -- calls while the boards show nothing
 abbrev pub ask : Call → Turn
@@ -113,15 +113,12 @@ ground-numbered d s l g =
     let up : s .next < after (s .next) = after-above (s .next) l in
     record { more = omega arith; clear = λ m k. g .clear m (omega arith); unsent = λ m k. g .unsent m (omega arith) }
 
-given-after : (n : ℕ) → 1 ≤ n → given n (after n) ≡ true
-given-after n h = grind (arith, tells)
-
 free-next : (d : Side) (ps : List Resting) (s : State) → Ground d s → Absent (s .next) ps → free (s .next) (put d ps s) ≡ true
 free-next Buy ps s g h = rw (h, g .clear (s .next) (omega arith), g .unsent (s .next) (omega arith))
 free-next Sell ps s g h = rw (h, g .clear (s .next) (omega arith), g .unsent (s .next) (omega arith))
 
 fits-next : (d : Side) (ps : List Resting) (s : State) → Ground d s → Absent (s .next) ps → fits (s .next) (numbered (put d ps s)) ≡ true
-fits-next d ps s g h = and-from (given (s .next) (after (s .next))) (free (s .next) (put d ps s)) (given-after (s .next) (g .more)) (free-next d ps s g h)
+fits-next d ps s g h = and-from (given (s .next) (after (s .next))) (free (s .next) (put d ps s)) (given-next (s .next) (let l : 1 ≤ s .next = g .more in omega arith)) (free-next d ps s g h)
 
 -- work on the probe trades with the first order
 abbrev pub hits : Side → ℕ → Resting → List Resting → State → Outcome
@@ -157,10 +154,13 @@ drains d k a s next fair some q = side d
   where
     most : k ≤ a .shown
     most = subst (λ (z : ℕ). z ≤ a .shown) q (drain-most next a fair some)
+
     u : due (less k a) ≡ true
     u = subst (λ (z : ℕ). due (less z a) ≡ true) q (drain-due next a fair some)
+
     whole : min k (a .shown) ≡ k
     whole = omega arith
+
     side : (d : Side) → hits d k a [] s ≡ drained d k a s
     side Buy = rw (whole, eqb-same k, u)
     side Sell = rw (whole, eqb-same k, u)

@@ -15,14 +15,8 @@ use Rattle.market.specs.declared.types.Route.{Route}
 use Rattle.market.specs.Sides.{across-of, route-before}
 use Rattle.market.specs.Legal.{legal-user}
 use Rattle.market.specs.States.{State, on, resting-bears, route-bears}
+use Rattle.soundness.proofs.Lists.{unlike, route-unlike, Absent, Unsent, every-imp}
 use Rattle.market.specs.Sound.{resting-fair, route-fair, resting-apart, routes-apart, parted, Sound}
-
--- no line bears the number
-abbrev pub Absent : ℕ → List Resting → Type 0
-Absent n ps = every (λ p. not (resting-bears n p)) ps ≡ true
-
-abbrev pub Unsent : ℕ → List Route → Type 0
-Unsent n rs = every (λ r. not (route-bears n r)) rs ≡ true
 
 -- a resting order of a book whose next number is this, among the orders behind it and those across
 pub record Fit (next : ℕ) (others behind : List Resting) (p : Resting) : Type 0 where
@@ -48,19 +42,13 @@ abbrev pub Rising : ℕ → ℕ → List Route → Type 0
 Rising next low [] = Unit {0}
 Rising next low (r ∷ rs) = (low ≤ r .number) × Open next r × Rising next (r .number + 1) rs
 
--- tests over lists
-pub every-weaken : {X : Type 0} (t u : X → Bool) → ((x : X) → t x ≡ true → u x ≡ true) → (xs : List X) → every t xs ≡ true → every u xs ≡ true
-every-weaken t u f [] h = refl
-every-weaken t u f (x ∷ xs) h =
-    let b = and-parts (t x) (every t xs) h in
-    and-from (u x) (every u xs) (f x (b .0)) (every-weaken t u f xs (b .1))
-
-every-swap : {X Y : Type 0} (t : X → Y → Bool) (xs : List X) (ys : List Y) → every (λ x. every (t x) ys) xs ≡ true → every (λ y. every (λ x. t x y) xs) ys ≡ true
-every-swap t xs [] h = refl
-every-swap t xs (y ∷ ys) h =
+-- a test of every two lines, the other way round
+every-turned : {X Y : Type 0} (t : X → Y → Bool) (xs : List X) (ys : List Y) → every (λ x. every (t x) ys) xs ≡ true → every (λ y. every (λ x. t x y) xs) ys ≡ true
+every-turned t xs [] h = refl
+every-turned t xs (y ∷ ys) h =
     and-from (every (λ x. t x y) xs) (every (λ y. every (λ x. t x y) xs) ys)
-    (every-weaken (λ x. t x y && every (t x) ys) (λ x. t x y) (λ x e. and-parts (t x y) (every (t x) ys) e .0) xs h)
-    (every-swap t xs ys (every-weaken (λ x. t x y && every (t x) ys) (λ x. every (t x) ys) (λ x e. and-parts (t x y) (every (t x) ys) e .1) xs h))
+    (every-imp (λ x. t x y && every (t x) ys) (λ x. t x y) xs (λ x e. and-parts (t x y) (every (t x) ys) e .0) h)
+    (every-turned t xs ys (every-imp (λ x. t x y && every (t x) ys) (λ x. every (t x) ys) xs (λ x e. and-parts (t x y) (every (t x) ys) e .1) h))
 
 -- what a fair line says, while numbers are unused
 module _ (next : ℕ) (more : 1 ≤ next) where
@@ -80,10 +68,10 @@ module _ (next : ℕ) (more : 1 ≤ next) where
   opens r fair = record { given = grind (arith, tells); some = grind (arith, tells) }
 
   pub fair-absent : (m : ℕ) → next ≤ m → (ps : List Resting) → every (resting-fair next) ps ≡ true → Absent m ps
-  fair-absent m l = every-weaken (resting-fair next) (λ p. not (resting-bears m p)) (λ p fair. grind (arith, tells))
+  fair-absent m l ps = every-imp (resting-fair next) (unlike m) ps (λ p fair. grind (arith, tells))
 
   pub fair-unsent : (m : ℕ) → next ≤ m → (rs : List Route) → every (route-fair next) rs ≡ true → Unsent m rs
-  fair-unsent m l = every-weaken (route-fair next) (λ r. not (route-bears m r)) (λ r fair. grind (arith, tells))
+  fair-unsent m l rs = every-imp (route-fair next) (route-unlike m) rs (λ r fair. grind (arith, tells))
 
   row : (others ps : List Resting) → every (resting-fair next) ps ≡ true → resting-apart ps ≡ true → every (λ p. every (λ x. not (resting-bears (p .number) x)) others) ps ≡ true → Row next others ps
   row others [] h a c = tt
@@ -104,38 +92,35 @@ module _ (next : ℕ) (more : 1 ≤ next) where
     where
       low-here : leb low (r .number) ≡ true → low ≤ r .number
       low-here e = grind (arith, tells)
+
       behind : (r : Route) (xs : List Route) → none-before route-before r xs ≡ true → every (λ x. not (route-bears (r .number) x)) xs ≡ true → every (λ x. leb (r .number + 1) (x .number)) xs ≡ true
       behind r [] h k = refl
       behind r (x ∷ xs) h k =
-        let b = and-parts (not (route-before x r)) (none-before route-before r xs) h in
-        let c = and-parts (not (route-bears (r .number) x)) (every (λ x. not (route-bears (r .number) x)) xs) k in
-        and-from (leb (r .number + 1) (x .number)) (every (λ x. leb (r .number + 1) (x .number)) xs) (above (b .0) (c .0)) (behind r xs (b .1) (c .1))
+          let b = and-parts (not (route-before x r)) (none-before route-before r xs) h in
+          let c = and-parts (not (route-bears (r .number) x)) (every (λ x. not (route-bears (r .number) x)) xs) k in
+          and-from (leb (r .number + 1) (x .number)) (every (λ x. leb (r .number + 1) (x .number)) xs) (above (b .0) (c .0)) (behind r xs (b .1) (c .1))
         where
           above : not (route-before x r) ≡ true → not (route-bears (r .number) x) ≡ true → leb (r .number + 1) (x .number) ≡ true
           above h k = grind (arith, tells)
 
 -- the rows of a sound book
 module _ (s : State) (sound : Sound s) (more : 1 ≤ s .next) where
-  pub side-fair : (d : Side) → every (resting-fair (s .next)) (on d s) ≡ true
-  side-fair Buy = sound .1 .0
-  side-fair Sell = sound .1 .1
-
   pub side-row : (d : Side) → Row (s .next) (on (across-of d) s) (on d s)
   side-row Buy =
       row (s .next) more (s .sells) (s .buys) (sound .1 .0) (sound .2 .0)
-      (every-weaken (λ b. every (parted b) (s .sells)) (λ b. every (λ x. not (resting-bears (b .number) x)) (s .sells)) (λ b. every-weaken (parted b) (λ x. not (resting-bears (b .number) x)) (clear b) (s .sells)) (s .buys) (sound .3 .0))
+      (every-imp (λ b. every (parted b) (s .sells)) (λ b. every (unlike (b .number)) (s .sells)) (s .buys) (λ b. every-imp (parted b) (unlike (b .number)) (s .sells) (clear b)) (sound .3 .0))
     where
       clear : (b x : Resting) → parted b x ≡ true → not (resting-bears (b .number) x) ≡ true
       clear b x h = grind (arith, tells)
   side-row Sell =
       row (s .next) more (s .buys) (s .sells) (sound .1 .1) (sound .2 .1)
-      (every-weaken (λ x. every (λ b. parted b x) (s .buys)) (λ x. every (λ b. not (resting-bears (x .number) b)) (s .buys)) (λ x. every-weaken (λ b. parted b x) (λ b. not (resting-bears (x .number) b)) (clear x) (s .buys)) (s .sells) (every-swap parted (s .buys) (s .sells) (sound .3 .0)))
+      (every-imp (λ x. every (λ b. parted b x) (s .buys)) (λ x. every (unlike (x .number)) (s .buys)) (s .sells) (λ x. every-imp (λ b. parted b x) (unlike (x .number)) (s .buys) (clear x)) (every-turned parted (s .buys) (s .sells) (sound .3 .0)))
     where
       clear : (x b : Resting) → parted b x ≡ true → not (resting-bears (x .number) b) ≡ true
       clear x b h = grind (arith, tells)
 
   pub routes-rising : Rising (s .next) 1 (s .routes)
-  routes-rising = rising (s .next) more 1 (s .routes) (every-weaken (route-fair (s .next)) (λ r. leb 1 (r .number)) positive (s .routes) (sound .1 .2)) (sound .1 .2) (sound .0 .2) (sound .2 .2)
+  routes-rising = rising (s .next) more 1 (s .routes) (every-imp (route-fair (s .next)) (λ r. leb 1 (r .number)) (s .routes) positive (sound .1 .2)) (sound .1 .2) (sound .0 .2) (sound .2 .2)
     where
       positive : (r : Route) → route-fair (s .next) r ≡ true → leb 1 (r .number) ≡ true
       positive r h = grind (arith, tells)

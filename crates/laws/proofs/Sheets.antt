@@ -176,7 +176,7 @@ module _ (s : State) (q : Quotes) (o : Order) where
   act-alike (Send x) =
       alike refl
       (λ i. state (sym (lines-lines (s .buys)) i) (sym (lines-lines (s .sells)) i)
-        (places route-line route-before (λ x y. refl) route-line-line _ _ (s .routes) (routed-line o x (s .next) (min (o .shares) (x .size)) (omega arith)) i) (after (s .next)))
+      (places route-line route-before (λ x y. refl) route-line-line _ _ (s .routes) (routed-line o x (s .next) (min (o .shares) (x .size)) (omega arith)) i) (after (s .next)))
       refl
       (left-seen o (min (o .shares) (x .size)) .same)
   act-alike (TakeOff why) = alike refl (sym (sheet-sheet s)) refl refl

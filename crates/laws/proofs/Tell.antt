@@ -33,7 +33,9 @@ use Rattle.laws.specs.Strings.{does}
 use Rattle.market.specs.Sheets.{line, route-line, hand-line, seen, Equal}
 use Rattle.laws.specs.Equal.{Answer, answered, answers, Two-unused}
 use Rattle.laws.proofs.Lines.{drain, drain-same, drain-some, drain-most, drain-shows, next-most, next-none, same-line, same-route-line}
-use Rattle.laws.proofs.Rows.{Absent, Fit, Row, Rising, fair-absent, fair-unsent, side-fair, side-row, routes-rising}
+use Rattle.soundness.proofs.Lists.{Absent}
+use Rattle.soundness.proofs.Keeps.{fair-of}
+use Rattle.laws.proofs.Rows.{Fit, Row, Rising, fair-absent, fair-unsent, side-row, routes-rising}
 use Rattle.laws.proofs.Probes.{ask, asks, cancelled, takes-first, takes-second, takes-none, sweep, probe, swept, sweeps, Ground, after-above, ground-numbered, hits, works, misses, works-none, renewed, drained, drains}
 
 -- at most k calls, while the boards show nothing, on which the answers differ
@@ -188,11 +190,12 @@ module _ (d : Side) (s s′ : State) (g : Ground d s) (g′ : Ground d s′) (tw
     where
       below : (b i i′ j j′ : ℕ) → min b i ≡ min b i′ → i ≡ j → i′ ≡ j′ → j ≤ b → j′ ≤ b → j ≡ j′
       below b i i′ j j′ e f f′ l l′ = omega arith
+
       leading : Told 2 (put d (renewed k a ∷ []) (numbered s)) ready (put d (renewed k a′ ∷ []) (numbered s′)) ready → Told 4 (put d (a ∷ []) s) ready (put d (a′ ∷ []) s′) ready
       leading w =
-        through 3 (sweep d k) (put d (a ∷ []) s) ready (put d (a′ ∷ []) s′) ready (swept d k (put d (a ∷ []) s)) (swept d k (put d (a′ ∷ []) s′))
-        (enters d s k zs a g f some q) (enters d s′ k zs′ a′ g′ f′ some′ q′)
-        (through 2 Work _ _ _ _ (drained d k a s) (drained d k a′ s′) (empties d s k zs a g f some q) (empties d s′ k zs′ a′ g′ f′ some′ q′) w)
+          through 3 (sweep d k) (put d (a ∷ []) s) ready (put d (a′ ∷ []) s′) ready (swept d k (put d (a ∷ []) s)) (swept d k (put d (a′ ∷ []) s′))
+          (enters d s k zs a g f some q) (enters d s′ k zs′ a′ g′ f′ some′ q′)
+          (through 2 Work _ _ _ _ (drained d k a s) (drained d k a′ s′) (empties d s k zs a g f some q) (empties d s′ k zs′ a′ g′ f′ some′ q′) w)
 
   -- the first orders of the two sides, once what stands behind them is judged
   firsts : (a a′ : Resting) (xs ys : List Resting) → Row (s .next) os (a ∷ xs) → Row (s′ .next) os′ (a′ ∷ ys) → (map line xs ≡ map line ys) ⊎ Told (length xs + 3) (put d xs s) ready (put d ys s′) ready → (map line (a ∷ xs) ≡ map line (a′ ∷ ys)) ⊎ Told (length (a ∷ xs) + 3) (put d (a ∷ xs) s) ready (put d (a′ ∷ ys) s′) ready
@@ -214,30 +217,43 @@ module _ (d : Side) (s s′ : State) (g : Ground d s) (g′ : Ground d s′) (tw
     where
       Here : Type 0
       Here = Told (length (a ∷ xs) + 3) (put d (a ∷ xs) s) ready (put d (a′ ∷ ys) s′) ready
+
       met : (read : Report → ℕ) → (read (trade-report (probe d (s .next) big) (a .number) (a .price) (min big (a .shown))) ≡ read (trade-report (probe d (s′ .next) big) (a′ .number) (a′ .price) (min big (a′ .shown)))) ⊎ Here
       met read = judge _ (put d (a ∷ xs) s) (put d (a′ ∷ ys) s′) (sweep d big ∷ Work ∷ []) _ _ (meets-row d s g os a xs r) (meets-row d s′ g′ os′ a′ ys r′) (omega arith) (first-report read)
+
       taken : does (ask (Cancel (a .user) (a .number))) (put d (a ∷ xs) s) ready ≡ cancelled d a xs s
       taken = takes-first d (a .user) (a .number) a xs s refl refl (r .0 .user) (r .0 .across)
+
       taken′ : a .number ≡ a′ .number → a .user ≡ a′ .user → does (ask (Cancel (a .user) (a .number))) (put d (a′ ∷ ys) s′) ready ≡ cancelled d a′ ys s′
       taken′ n u = takes-first d (a .user) (a .number) a′ ys s′ (sym u) (sym n) (r .0 .user) (rw n (r′ .0 .across))
+
       users : a .number ≡ a′ .number → (a .user ≡ a′ .user) ⊎ Here
-      users n = elim (cases-eq (a .user) (a′ .user)) [ inl e ↦ inl e | inr ne ↦
-        judge _ (put d (a ∷ xs) s) (put d (a′ ∷ ys) s′) (Cancel (a .user) (a .number) ∷ []) _ _
-        (once (Cancel (a .user) (a .number)) (put d (a ∷ xs) s) (cancelled d a xs s) taken)
-        (once (Cancel (a .user) (a .number)) (put d (a′ ∷ ys) s′) (refuse NotResting (put d (a′ ∷ ys) s′) no-quotes ready) (takes-none d (a .user) (a .number) a′ ys s′ (λ e. ne (sym e)) (r .0 .user) (rw n (r′ .0 .apart)) (rw n (r′ .0 .across))))
-        (omega arith) is-refusal >>= λ w. absurd (let v : _≡_ {A = ℕ} 0 1 = w in omega arith) ]
+      users n = elim (cases-eq (a .user) (a′ .user)) [
+        | inl e ↦ inl e
+        | inr ne ↦
+            judge _ (put d (a ∷ xs) s) (put d (a′ ∷ ys) s′) (Cancel (a .user) (a .number) ∷ []) _ _
+            (once (Cancel (a .user) (a .number)) (put d (a ∷ xs) s) (cancelled d a xs s) taken)
+            (once (Cancel (a .user) (a .number)) (put d (a′ ∷ ys) s′) (refuse NotResting (put d (a′ ∷ ys) s′) no-quotes ready) (takes-none d (a .user) (a .number) a′ ys s′ (λ e. ne (sym e)) (r .0 .user) (rw n (r′ .0 .apart)) (rw n (r′ .0 .across))))
+            (omega arith) is-refusal >>= λ w. absurd (let v : _≡_ {A = ℕ} 0 1 = w in omega arith)
+      ]
+
       totals : a .number ≡ a′ .number → a .user ≡ a′ .user → (total a ≡ total a′) ⊎ Here
       totals n u =
-        judge _ (put d (a ∷ xs) s) (put d (a′ ∷ ys) s′) (Cancel (a .user) (a .number) ∷ []) _ _
-        (once (Cancel (a .user) (a .number)) (put d (a ∷ xs) s) (cancelled d a xs s) taken)
-        (once (Cancel (a .user) (a .number)) (put d (a′ ∷ ys) s′) (cancelled d a′ ys s′) (taken′ n u))
-        (omega arith) (first-report (λ z. z .shares))
+          judge _ (put d (a ∷ xs) s) (put d (a′ ∷ ys) s′) (Cancel (a .user) (a .number) ∷ []) _ _
+          (once (Cancel (a .user) (a .number)) (put d (a ∷ xs) s) (cancelled d a xs s) taken)
+          (once (Cancel (a .user) (a .number)) (put d (a′ ∷ ys) s′) (cancelled d a′ ys s′) (taken′ n u))
+          (omega arith) (first-report (λ z. z .shares))
+
       behinds : a .number ≡ a′ .number → a .user ≡ a′ .user → Told (length xs + 3) (put d xs s) ready (put d ys s′) ready → Here
       behinds n u w = weaken (length xs + 3 + 1) _ (omega arith) (through (length xs + 3) (Cancel (a .user) (a .number)) (put d (a ∷ xs) s) ready (put d (a′ ∷ ys) s′) ready (cancelled d a xs s) (cancelled d a′ ys s′) taken (taken′ n u) w)
+
       nexts : a .shown ≡ a′ .shown → a .held ≡ a′ .held → map line xs ≡ map line ys → (next-show a ≡ next-show a′) ⊎ Here
-      nexts e h f = elim (cases-eq (a .held) 0) [ inl z ↦ inl (next-none a z ∙ sym (next-none a′ (sym h ∙ z))) | inr ne ↦
-        carried (λ w. weaken (length xs + 4) _ (omega arith) (strip 4 a a′ xs ys (r .0 .apart) (r′ .0 .apart) (r .1) (r′ .1) f w))
-        (lone xs ys (drain a) a a′ (r .0) (r′ .0) (omega arith) (omega arith) refl (sym (drain-same a a′ e))) ]
+      nexts e h f = elim (cases-eq (a .held) 0) [
+        | inl z ↦ inl (next-none a z ∙ sym (next-none a′ (sym h ∙ z)))
+        | inr ne ↦
+            carried (λ w. weaken (length xs + 4) _ (omega arith) (strip 4 a a′ xs ys (r .0 .apart) (r′ .0 .apart) (r .1) (r′ .1) f w))
+            (lone xs ys (drain a) a a′ (r .0) (r′ .0) (omega arith) (omega arith) refl (sym (drain-same a a′ e)))
+      ]
 
   sides : (ps ps′ : List Resting) → Row (s .next) os ps → Row (s′ .next) os′ ps′ → (map line ps ≡ map line ps′) ⊎ Told (length ps + 3) (put d ps s) ready (put d ps′ s′) ready
   sides [] [] r r′ = inl refl
@@ -319,6 +335,7 @@ module _ (s s′ : State) where
       head : List Answer → Answer
       head [] = closed
       head (a ∷ more) = a
+
       seen-at : (z : State) (y : Answer) → shown-by (look n (z .routes)) ≡ y → answers (asks (Reply 0 n ∷ [])) z ready ≡ y ∷ []
       seen-at z y f = ap (λ (a : Answer). a ∷ []) (replied (locate (route-bears n) (z .routes)) z ∙ ap shown-by (locate-look n (z .routes)) ∙ f)
 
@@ -357,25 +374,25 @@ module _ (s s′ : State) where
       inr (only′ (r .number) r (h′ .1 .some) (f (r .number) (h′ .0)) (f′ (r .number) (h′ .0) ∙ look-first (r .number) r rs refl))
   routes next next′ low (r ∷ rs) (r′ ∷ rs′) h h′ f f′ =
       go (cases-order (r .number) (r′ .number)) (λ k. routes next next′ (r .number + 1) rs rs′ (h .2) (rw k (h′ .2))
-        (λ n l. f n (omega (arith, h .0)) ∙ look-next n r rs (omega arith))
-        (λ n l. f′ n (omega (arith, h′ .0)) ∙ look-next n r′ rs′ (omega arith)))
+      (λ n l. f n (omega (arith, h .0)) ∙ look-next n r rs (omega arith))
+      (λ n l. f′ n (omega (arith, h′ .0)) ∙ look-next n r′ rs′ (omega arith)))
     where
       go : (r .number ≡ r′ .number) ⊎ ((r .number < r′ .number) ⊎ (r′ .number < r .number)) → (r .number ≡ r′ .number → (map route-line rs ≡ map route-line rs′) ⊎ Told 1 s ready s′ ready) → (map route-line (r ∷ rs) ≡ map route-line (r′ ∷ rs′)) ⊎ Told 1 s ready s′ ready
       go (inl k) behind =
-        one-route (r .number) r r′ (h .1 .some) (h′ .1 .some) k (f (r .number) (h .0) ∙ look-first (r .number) r rs refl) (f′ (r .number) (h .0) ∙ look-first (r .number) r′ rs′ (sym k))
-        >>= λ e. behind k >>= λ more. inl (λ i. e i ∷ more i)
+          one-route (r .number) r r′ (h .1 .some) (h′ .1 .some) k (f (r .number) (h .0) ∙ look-first (r .number) r rs refl) (f′ (r .number) (h .0) ∙ look-first (r .number) r′ rs′ (sym k))
+          >>= λ e. behind k >>= λ more. inl (λ i. e i ∷ more i)
       go (inr (inl k)) behind =
-        inr (only (r .number) r (h .1 .some) (f (r .number) (h .0) ∙ look-first (r .number) r rs refl)
-        (f′ (r .number) (h .0) ∙ look-under next′ (r′ .number) (r .number) (r′ ∷ rs′) (omega arith, h′ .1, h′ .2) k))
+          inr (only (r .number) r (h .1 .some) (f (r .number) (h .0) ∙ look-first (r .number) r rs refl)
+          (f′ (r .number) (h .0) ∙ look-under next′ (r′ .number) (r .number) (r′ ∷ rs′) (omega arith, h′ .1, h′ .2) k))
       go (inr (inr k)) behind =
-        inr (only′ (r′ .number) r′ (h′ .1 .some) (f (r′ .number) (h′ .0) ∙ look-under next (r .number) (r′ .number) (r ∷ rs) (omega arith, h .1, h .2) k)
-        (f′ (r′ .number) (h′ .0) ∙ look-first (r′ .number) r′ rs′ refl))
+          inr (only′ (r′ .number) r′ (h′ .1 .some) (f (r′ .number) (h′ .0) ∙ look-under next (r .number) (r′ .number) (r ∷ rs) (omega arith, h .1, h .2) k)
+          (f′ (r′ .number) (h′ .0) ∙ look-first (r′ .number) r′ rs′ refl))
 
 -- all together: the next number, the routes, the buys, the sells
 ground : (d : Side) (s : State) → Sound s → 1 ≤ s .next → Ground d s
 ground d s sound more = record {
   more = more;
-  clear = λ m l. fair-absent (s .next) more m l (on (across-of d) s) (side-fair s sound more (across-of d));
+  clear = λ m l. fair-absent (s .next) more m l (on (across-of d) s) (fair-of (across-of d) s sound);
   unsent = λ m l. fair-unsent (s .next) more m l (s .routes) (sound .1 .2);
 }
 
@@ -389,7 +406,8 @@ told s s′ z z′ (l, u) (l′, u′) =
   where
     Here : Type 0
     Here = Told (length (s .buys) + length (s .sells) + 3) s ready s′ ready
+
     numbers : (s .next ≡ s′ .next) ⊎ Here
     numbers =
-      judge _ s s′ (sweep Sell big ∷ []) _ _ (once (sweep Sell big) s (swept Sell big s) (sweeps Sell big s (omega arith) (omega arith) l)) (once (sweep Sell big) s′ (swept Sell big s′) (sweeps Sell big s′ (omega arith) (omega arith) l′))
-      (omega arith) (first-report (λ r. r .number))
+        judge _ s s′ (sweep Sell big ∷ []) _ _ (once (sweep Sell big) s (swept Sell big s) (sweeps Sell big s (omega arith) (omega arith) l)) (once (sweep Sell big) s′ (swept Sell big s′) (sweeps Sell big s′ (omega arith) (omega arith) l′))
+        (omega arith) (first-report (λ r. r .number))

@@ -2,8 +2,8 @@
 -- at its side and price, until it is gone.
 use mathlib.Core.Path.{_≡_}
 use mathlib.Core.Bool.{Bool, true, false, _&&_, _||_, cond}
-use mathlib.Core.List.{List, [], _∷_, _++_}
-use mathlib.Core.Logic.{_≢_, _⊎_}
+use mathlib.Core.List.{List, [], _∷_}
+use mathlib.Core.Logic.{_⊎_}
 use Prim.Native.Nat.{ℕ, _+_, _-_, _<_}
 use lib.Dec.{ltb, eqb}
 use Rattle.market.specs.declared.types.Side.{Side}
@@ -15,22 +15,13 @@ use Rattle.market.specs.declared.types.What.the-variants.{In, Trade, Sent, Rest
 use Rattle.market.specs.Sides.{across-of}
 use Rattle.market.specs.States.{State, new-state, on}
 use Rattle.market.specs.Calls.{Pass, ready, Says, reports, refused}
-use Rattle.laws.specs.Strings.{Turn, Playable, does, state-after, pass-after}
+use Rattle.laws.specs.Strings.{Turn, does, state-after, pass-after, Reported}
 
 abbrev pub same-side : Side → Side → Bool
 same-side Buy Buy = true
 same-side Buy Sell = false
 same-side Sell Buy = false
 same-side Sell Sell = true
-
--- a report is among those that a call said
-abbrev pub Among : Report → List Report → Type 0
-Among r [] = ⊥
-Among r (x ∷ xs) = (x ≡ r) ⊎ Among r xs
-
-abbrev pub Reported : Report → Says → Type 0
-Reported r (reports rs) = Among r rs
-Reported r (refused n) = ⊥
 
 -- the shares that the resting order n of the side d lost by a report: its trades and its cuts
 abbrev pub lost-by : Side → ℕ → What → Report → ℕ
@@ -105,12 +96,11 @@ In-list m [] = ⊥
 In-list m (k ∷ ks) = (k ≡ m) ⊎ In-list m ks
 
 -- THE LAW. From a new book, after any calls ts₀: a call reports that an order comes to rest (r) with nothing held back; then come any calls ts
--- by which it is not gone; then a call reports a trade (x). That trade does not take another order, at its side and price, that came to rest
--- or was refreshed during ts.
+-- by which it is not gone; then a call reports a trade (x). That trade takes no order, at its side and price, that came to rest or was
+-- refreshed during ts. (The order r itself is none of these: nothing held is never refreshed, and what stands does not come to rest.)
 abbrev pub Time-priority : Type 0
 Time-priority =
     (n : ℕ) (ts₀ : List Turn) (t : Turn) (ts : List Turn) (u : Turn) (r x : Report) →
-    Playable (ts₀ ++ t ∷ ts ++ u ∷ []) →
     let s₀ : State = state-after ts₀ (new-state n) ready in
     let p₀ : Pass = pass-after ts₀ (new-state n) ready in
     let s₁ : State = does t s₀ p₀ .state in
@@ -119,5 +109,5 @@ Time-priority =
     let p₂ : Pass = pass-after ts s₁ p₁ in
     Reported r (does t s₀ p₀ .says) → r .what ≡ Rest → r .held ≡ 0 →
     Stays (r .side) (r .number) (r .shares) ts s₁ p₁ →
-    Reported x (does u s₂ p₂ .says) → x .what ≡ Trade → across-of (x .side) ≡ r .side → x .price ≡ r .price → x .other ≢ r .number →
+    Reported x (does u s₂ p₂ .says) → x .what ≡ Trade → across-of (x .side) ≡ r .side → x .price ≡ r .price →
     In-list (x .other) (latecomers (r .side) [] ts s₁ p₁) → ⊥

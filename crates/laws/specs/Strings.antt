@@ -1,10 +1,12 @@
 -- Strings of calls on a book, whatever the boards show before each, and the answers that they draw.
+use mathlib.Core.Path.{_≡_}
 use mathlib.Core.List.{List, [], _∷_}
-use Prim.Native.Nat.{ℕ}
+use mathlib.Core.Logic.{_⊎_}
+use Rattle.market.specs.declared.types.Report.{Report}
 use Rattle.market.specs.declared.types.Call.{Call}
 use Rattle.market.specs.States.{State, Quotes}
 use Rattle.market.specs.Quotes.{Shown}
-use Rattle.market.specs.Calls.{Pass, ready, ended, in-hand, Says, Outcome, call}
+use Rattle.market.specs.Calls.{Pass, Says, reports, refused, Outcome, call}
 
 -- the quotations that the board shows, and then a call
 pub record Turn : Type 0 where
@@ -32,3 +34,12 @@ pass-after (t ∷ ts) s p = pass-after ts (does t s p .state) (does t s p .pass)
 abbrev pub said : List Turn → State → Pass → List Says
 said [] s p = []
 said (t ∷ ts) s p = does t s p .says ∷ said ts (does t s p .state) (does t s p .pass)
+
+-- a report is one of those that a call said
+abbrev pub Listed : Report → List Report → Type 0
+Listed r [] = ⊥
+Listed r (x ∷ xs) = (x ≡ r) ⊎ Listed r xs
+
+abbrev pub Reported : Report → Says → Type 0
+Reported r (reports rs) = Listed r rs
+Reported r (refused n) = ⊥

@@ -1,11 +1,11 @@
 -- Setting and clearing one bit of a word.
 use mathlib.Core.Path.{_≡_, refl, sym, ap, _∙_}
-use mathlib.Core.Bool.{Bool, true, false, not, _&&_, _||_}
-use mathlib.Core.Logic.{_⊎_, inl, inr}
-use Prim.Native.Nat.{ℕ, zero, suc, _+_, _-_, _*_, _/_, _%_, _^_, _<_, _≤_}
+use mathlib.Core.Bool.{true, false, not, _&&_, _||_}
+use mathlib.Core.Logic.{inl, inr}
+use Prim.Native.Nat.{ℕ, zero, suc, _+_, _-_, _*_, _/_, _%_, _^_, _<_}
 use native.Mathlib.Nat.{one-mul}
 use native.Mathlib.Omega.{arith}
-use lib.Dec.{eqb, leb}
+use lib.Dec.{eqb}
 use lib.Bits.{bitOr, bitXor, or-shr, xor-shr, or-mod, xor-mod}
 use Rattle.std.proofs.shelf.Bits.{shl-shr, pow-add, pow-pos, pow-below, div-below, one-shl, mod-below}
 use Rattle.std.proofs.shelf.Tests.{cases-eq, and-parts, and-from, and-right, eqb-true, eq-eqb, ne-eqb}

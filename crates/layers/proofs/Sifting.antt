@@ -1,12 +1,11 @@
 -- A take below, seen through a layer that shows only some lines.
 use mathlib.Core.Path.{_≡_, refl, sym, ap, subst, _∙_}
-use mathlib.Core.Bool.{Bool, true, false, cond, not, _&&_}
+use mathlib.Core.Bool.{Bool, true, false, cond, not}
 use mathlib.Core.List.{List, [], _∷_}
-use Prim.Native.Nat.{ℕ, _-_, _<_, _≤_, _^_}
+use Prim.Native.Nat.{ℕ, _-_, _<_, _^_}
 use native.Mathlib.Omega.{arith}
 use lib.Dec.{eqb}
 use lib.ListN.{length}
-use Rattle.std.specs.Orderings.{When}
 use Rattle.std.specs.declared.option.Option.{Option}
 use Rattle.std.specs.declared.option.Option.the-variants.{Some, None}
 use Rattle.std.specs.declared.result.Result.{Result}
@@ -66,8 +65,8 @@ module _ (p : Quotation → Bool) where
       let both = and-parts (lacking (x .venue) xs) (one-a-venue xs) h in
       let rest = of-venue-those v xs (both .1) in
       let gone : eqb (x .venue) v ≡ true → of-venue v (those p xs) ≡ None = λ e.
-        let P : ℕ → Type 0 = λ u. lacking u xs ≡ true in
-        none-of v (those p xs) (every-those p (λ y. not (venue-is v y)) xs (subst P (eqb-true (x .venue) v e) (both .0)))
+      let P : ℕ → Type 0 = λ u. lacking u xs ≡ true in
+      none-of v (those p xs) (every-those p (λ y. not (venue-is v y)) xs (subst P (eqb-true (x .venue) v e) (both .0)))
       in
       elim (p x) as (λ b. p x ≡ b → of-venue v (cond b (x ∷ those p xs) (those p xs)) ≡ through p (cond (eqb (x .venue) v) (Some x) (of-venue v xs))) [
         | true ↦ λ t. elim (eqb (x .venue) v) as (λ e. cond e (Some x) (of-venue v (those p xs)) ≡ through p (cond e (Some x) (of-venue v xs))) [ true ↦ rw t | false ↦ rest ]

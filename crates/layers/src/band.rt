@@ -2,9 +2,9 @@
 ghost use mathlib.Core.Path.{_≡_};
 ghost use Rattle.ranking.specs.Place.{those};
 ghost use Rattle.layers.specs.Shows.{in-band};
+use crate::screens::Screen;
 use crate::screens::screened_line;
 use crate::screens::screened_take;
-use crate::screens::Screen;
 use board::Board;
 use market::types::Quotation;
 use market::types::Refusal;
@@ -49,7 +49,10 @@ impl<B> Band<B> {
     pub fn over(below: B, low: u32, high: u32) -> Band<B>
         ensures { λ r. ⌜ (r .below ≡ below) × (r .prices .low ≡ low) × (r .prices .high ≡ high) ⌝ }
     {
-        Band { below, prices: Prices { low, high } }
+        Band {
+            below,
+            prices: Prices { low, high },
+        }
     }
 
     // The board below again, and no layer.

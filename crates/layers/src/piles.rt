@@ -11,13 +11,13 @@ use crate::band::Band;
 use crate::band::BandBoard;
 use crate::self_help::SelfHelp;
 use crate::self_help::SelfHelpBoard;
-use board::looks::first_better;
 use board::Board;
+use board::looks::first_better;
 use market::types::Quotation;
 use market::types::Refusal;
 use market::types::Side;
-use table_board::table::methods::TableBoardBoard;
 use table_board::table::TableBoard;
+use table_board::table::methods::TableBoardBoard;
 
 // Whether a bid is better than this price, three layers above a table.
 pub fn bid_better(pile: &SelfHelp<Band<SelfHelp<TableBoard>>>, price: u32) -> bool
@@ -34,7 +34,11 @@ pub fn layered_better<B: Board>(pile: &SelfHelp<Band<B>>, side: Side, price: u32
 }
 
 // Quotes on the table at the bottom of a pile, whose layers stay as they are.
-pub fn quote_under(pile: &mut SelfHelp<Band<TableBoard>>, side: Side, q: Quotation) -> Result<(), Refusal>
+pub fn quote_under(
+    pile: &mut SelfHelp<Band<TableBoard>>,
+    side: Side,
+    q: Quotation,
+) -> Result<(), Refusal>
     ensures table { λ r. ⌜ Quoted side q (lists-of (now (pile .entry) .below .below)) (lists-of (now (pile .exit) .below .below)) r ⌝ }
     ensures layers { λ _. ⌜ (now (pile .exit) .marks ≡ now (pile .entry) .marks) × (now (pile .exit) .below .prices ≡ now (pile .entry) .below .prices) ⌝ }
 {

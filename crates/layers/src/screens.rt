@@ -8,8 +8,8 @@ ghost use Rattle.market.specs.declared.types.Quotation.{Quotation};
 ghost use Rattle.market.specs.States.{quotes-of, quoted};
 ghost use Rattle.market.specs.Quotes.{resized, Taken};
 ghost use Rattle.layers.specs.Shows.{TakenBelow};
-use board::looks::line_of;
 use board::Board;
+use board::looks::line_of;
 use market::types::Quotation;
 use market::types::Refusal;
 use market::types::Side;
@@ -26,7 +26,12 @@ pub trait Screen {
 }
 
 // The line at a place among those that are shown.
-pub fn screened_line<B: Board, S: Screen>(board: &B, screen: &S, side: Side, place: usize) -> Option<Quotation>
+pub fn screened_line<B: Board, S: Screen>(
+    board: &B,
+    screen: &S,
+    side: Side,
+    place: usize,
+) -> Option<Quotation>
     ensures { λ r. ⌜ r ≡ nth (those (passes (now (screen .entry))) (quoted side (quotes-of (bids (now (board .entry))) (offers (now (board .entry)))))) place ⌝ }
 {
     let mut below: usize = 0;
@@ -44,7 +49,13 @@ pub fn screened_line<B: Board, S: Screen>(board: &B, screen: &S, side: Side, pla
 }
 
 // Takes shares from a line that is shown; the board below answers.
-pub fn screened_take<B: Board, S: Screen>(board: &mut B, screen: &S, side: Side, venue: u32, shares: u32) -> Result<(), Refusal>
+pub fn screened_take<B: Board, S: Screen>(
+    board: &mut B,
+    screen: &S,
+    side: Side,
+    venue: u32,
+    shares: u32,
+) -> Result<(), Refusal>
     ensures shown { λ r. ⌜ Taken side venue shares (quotes-of (those (passes (now (screen .entry))) (bids (now (board .entry)))) (those (passes (now (screen .entry))) (offers (now (board .entry))))) (quotes-of (those (passes (now (screen .entry))) (bids (now (board .exit)))) (those (passes (now (screen .entry))) (offers (now (board .exit))))) r ⌝ }
     ensures below { λ r. ⌜ TakenBelow (passes (now (screen .entry))) side venue shares (quotes-of (bids (now (board .entry))) (offers (now (board .entry)))) (quotes-of (bids (now (board .exit))) (offers (now (board .exit)))) r ⌝ }
 {

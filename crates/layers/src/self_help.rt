@@ -37,7 +37,10 @@ impl<B> SelfHelp<B> {
     pub fn over(below: B) -> SelfHelp<B>
         ensures { λ r. ⌜ (r .below ≡ below) × (r .marks .word ≡ 0) ⌝ }
     {
-        SelfHelp { below, marks: Marks::none() }
+        SelfHelp {
+            below,
+            marks: Marks::none(),
+        }
     }
 
     // Marks a venue: its lines are shown no more.

@@ -1,1 +1,5 @@
+pub mod Boards
 pub mod Works
+pub mod Performs
+pub mod Quotes
+pub mod Days

@@ -1,3 +1,4 @@
 pub mod Days
 pub mod Records
 pub mod Desks
+pub mod Sessions

@@ -1,9 +1,12 @@
 // The record of a day: its reports and refusals, in the order in which they came.
 ghost use mathlib.Core.Path.{_≡_};
 ghost use mathlib.Core.Bool.{true};
-ghost use mathlib.Core.List.{[], _∷_, _++_};
+ghost use mathlib.Core.List.{[], _∷_, _++_, map};
+ghost use Rattle.std.specs.Vec.{made};
+ghost use Rattle.std.specs.Of.Vec.{vec-items};
 ghost use Rattle.std.specs.declared.option.Option.the-variants.{Some};
 ghost use Rattle.replay.specs.Records.{told-of, told-text, record-of, whole-of, Noted};
+use crate::day::NoMemory;
 use market::reports::RefusalDisplay;
 use market::reports::ReportDisplay;
 use market::types::Refusal;
@@ -50,5 +53,13 @@ impl Record {
         if self.lines.push(line).is_err() {
             self.whole = false;
         }
+    }
+
+    // The lines, if the record is whole.
+    pub fn finish(self) -> Result<Vec<Line>, NoMemory>
+        ensures { λ r. ⌜ made r (λ v. (whole-of self ≡ true) × (map told-of (vec-items v) ≡ record-of self)) ⌝ }
+    {
+        let Record { lines, whole } = self;
+        if whole { Ok(lines) } else { Err(NoMemory) }
     }
 }

@@ -1,18 +1,17 @@
 -- What is left in hand, or comes back in hand, may be worked.
-use mathlib.Core.Path.{_≡_, refl, sym, ap, subst, _∙_}
-use mathlib.Core.Bool.{Bool, true, false, cond, not, _&&_, _||_}
+use mathlib.Core.Path.{_≡_, refl, sym, ap, _∙_}
+use mathlib.Core.Bool.{Bool, true, false, cond}
 use mathlib.Core.List.{List, [], _∷_, _++_}
-use Prim.Native.Nat.{ℕ, _+_, _-_, _<_, _≤_, min}
+use mathlib.Core.Logic.{_≢_}
+use Prim.Native.Nat.{ℕ, _-_, _<_, _≤_, min}
 use native.Mathlib.Omega.{arith}
-use lib.Dec.{ltb, leb, eqb}
+use lib.Dec.{eqb}
 use Rattle.std.proofs.shelf.Ways.{tells}
 use Rattle.std.proofs.shelf.Tests.{and-parts, and-from, eqb-false}
-use Rattle.std.specs.declared.option.Option.{Option}
 use Rattle.std.specs.declared.option.Option.the-variants.{Some, None}
-use Rattle.ranking.specs.Place.{Spot, place, every}
+use Rattle.ranking.specs.Place.{Spot, every}
 use Rattle.market.specs.declared.types.Side.{Side}
 use Rattle.market.specs.declared.types.Side.the-variants.{Buy, Sell}
-use Rattle.market.specs.declared.types.Resting.{Resting}
 use Rattle.market.specs.declared.types.Route.{Route}
 use Rattle.market.specs.declared.types.Quotation.{Quotation}
 use Rattle.market.specs.declared.types.Order.{Order}
@@ -20,14 +19,13 @@ use Rattle.market.specs.declared.types.Terms.{Terms}
 use Rattle.market.specs.declared.types.Move.{Move}
 use Rattle.market.specs.declared.types.Move.the-variants.{Trade, Send, TakeOff, Rest}
 use Rattle.market.specs.Sides.{across-of, route-before}
-use Rattle.market.specs.Numbers.{given, after}
+use Rattle.market.specs.Numbers.{given}
 use Rattle.market.specs.States.{State, Quotes, on, put, with-routes, free, fits}
 use Rattle.market.specs.Orders.{traded, entered, remaining, with-shares, returned}
 use Rattle.market.specs.Steps.{move-of, act, step}
-use Rattle.market.specs.Calls.{terms-refusal, or-else, unless}
-use Rattle.market.specs.Legal.{legal-user, legal-size, legal-price, legal-show}
+use Rattle.market.specs.Calls.{terms-refusal}
 use Rattle.market.specs.Sound.{Sound, able, routes-apart, route-fair, clear-of}
-use Rattle.soundness.proofs.Lists.{unlike, route-unlike, every-place, every-out, every-at, every-imp}
+use Rattle.soundness.proofs.Lists.{unlike, route-unlike, every-place, every-at}
 use Rattle.soundness.proofs.Trades.{every-stays}
 use Rattle.soundness.proofs.Keeps.{given-on, not-given}
 use Rattle.soundness.proofs.Moves.{send-when}
@@ -35,14 +33,16 @@ use Rattle.soundness.proofs.Moves.{send-when}
 able-with : (n : ℕ) (o : Order) → 0 < n → n ≤ o .shares → able o ≡ true → able (with-shares n o) ≡ true
 able-with n o p l a = grind (arith, tells)
 
+-- what is left once k shares are gone: the same order with the others
+pub left-is : (k : ℕ) (o o′ : Order) → Some o′ ≡ remaining k o → (o .shares ≢ k) × (o′ ≡ with-shares (o .shares - k) o)
+left-is k o o′ e = at (eqb (o .shares) k) refl e
+  where
+    at : (t : Bool) → eqb (o .shares) k ≡ t → Some o′ ≡ cond t None (Some (with-shares (o .shares - k) o)) → (o .shares ≢ k) × (o′ ≡ with-shares (o .shares - k) o)
+    at true u v = let z : _≡_ {A = ℕ} 0 1 = cc in absurd (omega arith)
+    at false u v = (eqb-false (o .shares) k u, cc)
+
 able-left : (k : ℕ) (o o′ : Order) → k ≤ o .shares → able o ≡ true → Some o′ ≡ remaining k o → able o′ ≡ true
-able-left k o o′ l a e =
-    let at : (t : Bool) → eqb (o .shares) k ≡ t → Some o′ ≡ cond t None (Some (with-shares (o .shares - k) o)) → able o′ ≡ true = λ t u v.
-    elim t as (λ z. eqb (o .shares) k ≡ z → Some o′ ≡ cond z None (Some (with-shares (o .shares - k) o)) → able o′ ≡ true) [
-      | true ↦ λ _ w. grind arith
-      | false ↦ λ n w. let same : o′ ≡ with-shares (o .shares - k) o = cc in rw same (able-with (o .shares - k) o (let z = eqb-false (o .shares) k n in omega arith) (omega arith) a)
-    ] u v in
-    at (eqb (o .shares) k) refl e
+able-left k o o′ l a e = let w = left-is k o o′ e in rw (w .1) (able-with (o .shares - k) o (let z = w .0 in omega arith) (omega arith) a)
 
 able-act : (m : Move) (s : State) (q : Quotes) (o o′ : Order) → able o ≡ true → Some o′ ≡ act m s q o .left → able o′ ≡ true
 able-act (Trade n price shown) s q o o′ a e = able-left (min (o .shares) shown) o o′ (omega arith) a e
@@ -54,7 +54,7 @@ pub able-after : (s : State) (q : Quotes) (o o′ : Order) → able o ≡ true �
 able-after s q o o′ = able-act (move-of s q o) s q o o′
 
 left-number : (k : ℕ) (o o′ : Order) → Some o′ ≡ remaining k o → o′ .number ≡ o .number
-left-number k o o′ e = grind (arith, tells)
+left-number k o o′ e = ap (λ (x : Order). x .number) (left-is k o o′ e .1)
 
 number-act : (m : Move) (s : State) (q : Quotes) (o o′ : Order) → Some o′ ≡ act m s q o .left → o′ .number ≡ o .number
 number-act (Trade n price shown) s q o o′ e = left-number _ o o′ e

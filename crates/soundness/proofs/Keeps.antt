@@ -1,14 +1,12 @@
 -- Each move keeps a sound book sound.
 use mathlib.Core.Path.{_≡_, refl, sym, ap, subst, _∙_}
-use mathlib.Core.Bool.{Bool, true, false, cond, not, _&&_, _||_}
+use mathlib.Core.Bool.{Bool, true, false, not, _&&_}
 use mathlib.Core.List.{List, [], _∷_, _++_}
-use Prim.Native.Nat.{ℕ, _+_, _-_, _<_, _≤_, min}
+use Prim.Native.Nat.{ℕ, _-_, _<_, _≤_}
 use native.Mathlib.Omega.{arith}
-use lib.Dec.{ltb, leb, eqb}
+use lib.Dec.{eqb}
 use Rattle.std.proofs.shelf.Ways.{tells}
-use Rattle.std.proofs.shelf.Tests.{and-parts, and-from, cond-both, ltb-true, eqb-false, eqb-true}
-use Rattle.std.specs.declared.option.Option.{Option}
-use Rattle.std.specs.declared.option.Option.the-variants.{Some, None}
+use Rattle.std.proofs.shelf.Tests.{and-parts, and-from}
 use Rattle.ranking.specs.Place.{Spot, place, every, none-before, in-rank, head-of}
 use Rattle.market.specs.declared.types.Side.{Side}
 use Rattle.market.specs.declared.types.Side.the-variants.{Buy, Sell}
@@ -16,14 +14,14 @@ use Rattle.market.specs.declared.types.Resting.{Resting}
 use Rattle.market.specs.declared.types.Route.{Route}
 use Rattle.market.specs.declared.types.Order.{Order}
 use Rattle.market.specs.declared.types.Quotation.{Quotation}
-use Rattle.market.specs.Sides.{resting-before, ahead, route-before, across-of, within}
+use Rattle.market.specs.Sides.{resting-before, route-before, across-of, within}
 use Rattle.market.specs.Numbers.{given, after}
 use Rattle.market.specs.States.{State, state, on, put, with-routes, numbered, free, fits, new-state}
-use Rattle.market.specs.Orders.{total, less, due, refresh, traded, trimmed, rested, routed, returned, remaining, with-shares, sharing}
+use Rattle.market.specs.Orders.{total, traded, trimmed, rested, routed, sharing}
 use Rattle.market.specs.Steps.{resting-near}
 use Rattle.market.specs.Sound.{Sound, able, resting-apart, routes-apart, resting-fair, route-fair, parted, clear-of}
 use Rattle.soundness.specs.Rest.{Restable}
-use Rattle.soundness.proofs.Lists.{unlike, route-unlike, every-place, every-imp, every-both, every-out, every-at, every-swap, rank-place, rank-route, rank-out, rank-swap, apart-place, apart-out, apart-swap, routes-place, routes-out}
+use Rattle.soundness.proofs.Lists.{unlike, route-unlike, every-place, every-imp, every-both, every-out, every-swap, rank-place, rank-route, rank-out, rank-swap, apart-place, apart-out, apart-swap, routes-place, routes-out}
 use Rattle.soundness.proofs.Trades.{every-traded, every-stays, apart-traded, rank-traded, fair-less, fair-refresh}
 
 pub sound-new : (n : ℕ) → Sound (new-state n)
@@ -35,17 +33,21 @@ sound-traded Buy k s ((br, sr, rr), (bf, sf, rf), (ba, sa, ra), (bs, rb, rs)) = 
   (rank-traded Buy k (s .buys) br, sr, rr),
   (every-traded Buy k (resting-fair (s .next)) (s .buys) (fair-less (s .next) k) (fair-refresh (s .next) k) bf, sf, rf),
   (apart-traded Buy k (s .buys) ba, sa, ra),
-  (every-stays Buy k (λ b. every (parted b) (s .sells)) (s .buys) (λ _. refl) (λ _. refl) bs,
-  every-imp _ _ (s .routes) (λ r. every-stays Buy k (clear-of r) (s .buys) (λ _. refl) (λ _. refl)) rb,
-  rs),
+  (
+    every-stays Buy k (λ b. every (parted b) (s .sells)) (s .buys) (λ _. refl) (λ _. refl) bs,
+    every-imp _ _ (s .routes) (λ r. every-stays Buy k (clear-of r) (s .buys) (λ _. refl) (λ _. refl)) rb,
+    rs,
+  ),
 )
 sound-traded Sell k s ((br, sr, rr), (bf, sf, rf), (ba, sa, ra), (bs, rb, rs)) = (
   (br, rank-traded Sell k (s .sells) sr, rr),
   (bf, every-traded Sell k (resting-fair (s .next)) (s .sells) (fair-less (s .next) k) (fair-refresh (s .next) k) sf, rf),
   (ba, apart-traded Sell k (s .sells) sa, ra),
-  (every-imp _ _ (s .buys) (λ b. every-stays Sell k (parted b) (s .sells) (λ _. refl) (λ _. refl)) bs,
-  rb,
-  every-imp _ _ (s .routes) (λ r. every-stays Sell k (clear-of r) (s .sells) (λ _. refl) (λ _. refl)) rs),
+  (
+    every-imp _ _ (s .buys) (λ b. every-stays Sell k (parted b) (s .sells) (λ _. refl) (λ _. refl)) bs,
+    rb,
+    every-imp _ _ (s .routes) (λ r. every-stays Sell k (clear-of r) (s .sells) (λ _. refl) (λ _. refl)) rs,
+  ),
 )
 
 -- a resting order taken out
@@ -54,17 +56,21 @@ sound-out Buy p s e ((br, sr, rr), (bf, sf, rf), (ba, sa, ra), (bs, rb, rs)) = (
   (rank-out (resting-before Buy) (p .front) (p .rest) (p .line) (sym (ap (in-rank (resting-before Buy)) e) ∙ br), sr, rr),
   (every-out (resting-fair (s .next)) (p .front) (p .rest) (p .line) (sym (ap (every (resting-fair (s .next))) e) ∙ bf), sf, rf),
   (apart-out (p .front) (p .rest) (p .line) (sym (ap resting-apart e) ∙ ba), sa, ra),
-  (every-out (λ b. every (parted b) (s .sells)) (p .front) (p .rest) (p .line) (sym (ap (every (λ b. every (parted b) (s .sells))) e) ∙ bs),
-  every-imp _ _ (s .routes) (λ r h. every-out (clear-of r) (p .front) (p .rest) (p .line) (sym (ap (every (clear-of r)) e) ∙ h)) rb,
-  rs),
+  (
+    every-out (λ b. every (parted b) (s .sells)) (p .front) (p .rest) (p .line) (sym (ap (every (λ b. every (parted b) (s .sells))) e) ∙ bs),
+    every-imp _ _ (s .routes) (λ r h. every-out (clear-of r) (p .front) (p .rest) (p .line) (sym (ap (every (clear-of r)) e) ∙ h)) rb,
+    rs,
+  ),
 )
 sound-out Sell p s e ((br, sr, rr), (bf, sf, rf), (ba, sa, ra), (bs, rb, rs)) = (
   (br, rank-out (resting-before Sell) (p .front) (p .rest) (p .line) (sym (ap (in-rank (resting-before Sell)) e) ∙ sr), rr),
   (bf, every-out (resting-fair (s .next)) (p .front) (p .rest) (p .line) (sym (ap (every (resting-fair (s .next))) e) ∙ sf), rf),
   (ba, apart-out (p .front) (p .rest) (p .line) (sym (ap resting-apart e) ∙ sa), ra),
-  (every-imp _ _ (s .buys) (λ b h. every-out (parted b) (p .front) (p .rest) (p .line) (sym (ap (every (parted b)) e) ∙ h)) bs,
-  rb,
-  every-imp _ _ (s .routes) (λ r h. every-out (clear-of r) (p .front) (p .rest) (p .line) (sym (ap (every (clear-of r)) e) ∙ h)) rs),
+  (
+    every-imp _ _ (s .buys) (λ b h. every-out (parted b) (p .front) (p .rest) (p .line) (sym (ap (every (parted b)) e) ∙ h)) bs,
+    rb,
+    every-imp _ _ (s .routes) (λ r h. every-out (clear-of r) (p .front) (p .rest) (p .line) (sym (ap (every (clear-of r)) e) ∙ h)) rs,
+  ),
 )
 
 -- a resting order that keeps its number and price, changed where it stands
@@ -77,17 +83,21 @@ module _ (p : Spot Resting) (a b : ℕ) where
     (rank-swap (resting-before Buy) (p .front) (p .rest) (p .line) x′ (λ _. refl) (λ _. refl) (sym (ap (in-rank (resting-before Buy)) e) ∙ br), sr, rr),
     (every-swap (resting-fair (s .next)) (p .front) (p .rest) (p .line) x′ f (sym (ap (every (resting-fair (s .next))) e) ∙ bf), sf, rf),
     (apart-swap (p .front) (p .rest) (p .line) x′ refl (sym (ap resting-apart e) ∙ ba), sa, ra),
-    (every-swap (λ b. every (parted b) (s .sells)) (p .front) (p .rest) (p .line) x′ (λ h. h) (sym (ap (every (λ b. every (parted b) (s .sells))) e) ∙ bs),
-    every-imp _ _ (s .routes) (λ r h. every-swap (clear-of r) (p .front) (p .rest) (p .line) x′ (λ g. g) (sym (ap (every (clear-of r)) e) ∙ h)) rb,
-    rs),
+    (
+      every-swap (λ b. every (parted b) (s .sells)) (p .front) (p .rest) (p .line) x′ (λ h. h) (sym (ap (every (λ b. every (parted b) (s .sells))) e) ∙ bs),
+      every-imp _ _ (s .routes) (λ r h. every-swap (clear-of r) (p .front) (p .rest) (p .line) x′ (λ g. g) (sym (ap (every (clear-of r)) e) ∙ h)) rb,
+      rs,
+    ),
   )
   sound-changed Sell s e f ((br, sr, rr), (bf, sf, rf), (ba, sa, ra), (bs, rb, rs)) = (
     (br, rank-swap (resting-before Sell) (p .front) (p .rest) (p .line) x′ (λ _. refl) (λ _. refl) (sym (ap (in-rank (resting-before Sell)) e) ∙ sr), rr),
     (bf, every-swap (resting-fair (s .next)) (p .front) (p .rest) (p .line) x′ f (sym (ap (every (resting-fair (s .next))) e) ∙ sf), rf),
     (ba, apart-swap (p .front) (p .rest) (p .line) x′ refl (sym (ap resting-apart e) ∙ sa), ra),
-    (every-imp _ _ (s .buys) (λ b h. every-swap (parted b) (p .front) (p .rest) (p .line) x′ (λ g. g) (sym (ap (every (parted b)) e) ∙ h)) bs,
-    rb,
-    every-imp _ _ (s .routes) (λ r h. every-swap (clear-of r) (p .front) (p .rest) (p .line) x′ (λ g. g) (sym (ap (every (clear-of r)) e) ∙ h)) rs),
+    (
+      every-imp _ _ (s .buys) (λ b h. every-swap (parted b) (p .front) (p .rest) (p .line) x′ (λ g. g) (sym (ap (every (parted b)) e) ∙ h)) bs,
+      rb,
+      every-imp _ _ (s .routes) (λ r h. every-swap (clear-of r) (p .front) (p .rest) (p .line) x′ (λ g. g) (sym (ap (every (clear-of r)) e) ∙ h)) rs,
+    ),
   )
 
 -- a cut that leaves some shares
@@ -103,9 +113,11 @@ sound-unrouted r s e ((br, sr, rr), (bf, sf, rf), (ba, sa, ra), (bs, rb, rs)) = 
   (br, sr, rank-out route-before (r .front) (r .rest) (r .line) (sym (ap (in-rank route-before) e) ∙ rr)),
   (bf, sf, every-out (route-fair (s .next)) (r .front) (r .rest) (r .line) (sym (ap (every (route-fair (s .next))) e) ∙ rf)),
   (ba, sa, routes-out (r .front) (r .rest) (r .line) (sym (ap routes-apart e) ∙ ra)),
-  (bs,
-  every-out (λ r. every (clear-of r) (s .buys)) (r .front) (r .rest) (r .line) (sym (ap (every (λ r. every (clear-of r) (s .buys))) e) ∙ rb),
-  every-out (λ r. every (clear-of r) (s .sells)) (r .front) (r .rest) (r .line) (sym (ap (every (λ r. every (clear-of r) (s .sells))) e) ∙ rs)),
+  (
+    bs,
+    every-out (λ r. every (clear-of r) (s .buys)) (r .front) (r .rest) (r .line) (sym (ap (every (λ r. every (clear-of r) (s .buys))) e) ∙ rb),
+    every-out (λ r. every (clear-of r) (s .sells)) (r .front) (r .rest) (r .line) (sym (ap (every (λ r. every (clear-of r) (s .sells))) e) ∙ rs),
+  ),
 )
 
 -- numbers
@@ -117,7 +129,7 @@ and-on a a′ b f h = let p = and-parts a b h in and-from a′ b (f (p .0)) (p .
 pub given-on : (n next : ℕ) → (next ≡ 0 → ⊥) → given n next ≡ true → given n (after next) ≡ true
 given-on n next h k = grind (arith, tells)
 
-given-next : (next : ℕ) → (next ≡ 0 → ⊥) → given next (after next) ≡ true
+pub given-next : (next : ℕ) → (next ≡ 0 → ⊥) → given next (after next) ≡ true
 given-next next h = grind (arith, tells)
 
 -- the next number is not given
@@ -160,9 +172,11 @@ sound-sent o q k s a ne pos le h =
       (h .0 .0, h .0 .1, rank-route r (s .routes) (h .0 .2)),
       (m .1 .0, m .1 .1, every-place route-before (route-fair (after n)) r (s .routes) new-route (m .1 .2)),
       (h .2 .0, h .2 .1, routes-place route-before r (s .routes) (every-imp _ _ (s .routes) (route-not n ne) (h .1 .2)) (h .2 .2)),
-      (h .3 .0,
+      (
+        h .3 .0,
         every-place route-before _ r (s .routes) (every-imp _ _ (s .buys) (resting-not n ne) (h .1 .0)) (h .3 .1),
-        every-place route-before _ r (s .routes) (every-imp _ _ (s .sells) (resting-not n ne) (h .1 .1)) (h .3 .2)),
+        every-place route-before _ r (s .routes) (every-imp _ _ (s .sells) (resting-not n ne) (h .1 .1)) (h .3 .2),
+      ),
     )
 
 -- coming to rest
@@ -192,9 +206,11 @@ sound-placed Buy p s w ((br, sr, rr), (bf, sf, rf), (ba, sa, ra), (bs, rb, rs)) 
       (rank-place Buy p (s .buys) br, sr, rr),
       (every-place (resting-before Buy) (resting-fair (s .next)) p (s .buys) (w .fair) bf, sf, rf),
       (apart-place (resting-before Buy) p (s .buys) (e1 .0) ba, sa, ra),
-      (every-place (resting-before Buy) (λ b. every (parted b) (s .sells)) p (s .buys) (every-both (unlike (p .number)) (λ x. not (within Buy (p .price) (x .price))) (parted p) (s .sells) (λ x h k. grind (arith, tells)) (e2 .0) (w .clear)) bs,
-      every-both (route-unlike (p .number)) (λ r. every (clear-of r) (s .buys)) (λ r. every (clear-of r) (place (resting-before Buy) p (s .buys))) (s .routes) (λ r h k. every-place (resting-before Buy) (clear-of r) p (s .buys) (grind (arith, tells)) k) (e2 .1) rb,
-      rs),
+      (
+        every-place (resting-before Buy) (λ b. every (parted b) (s .sells)) p (s .buys) (every-both (unlike (p .number)) (λ x. not (within Buy (p .price) (x .price))) (parted p) (s .sells) (λ x h k. grind (arith, tells)) (e2 .0) (w .clear)) bs,
+        every-both (route-unlike (p .number)) (λ r. every (clear-of r) (s .buys)) (λ r. every (clear-of r) (place (resting-before Buy) p (s .buys))) (s .routes) (λ r h k. every-place (resting-before Buy) (clear-of r) p (s .buys) (grind (arith, tells)) k) (e2 .1) rb,
+        rs,
+      ),
     )
 sound-placed Sell p s w ((br, sr, rr), (bf, sf, rf), (ba, sa, ra), (bs, rb, rs)) =
     let e1 = and-parts (every (unlike (p .number)) (s .buys)) _ (w .free) in
@@ -202,10 +218,17 @@ sound-placed Sell p s w ((br, sr, rr), (bf, sf, rf), (ba, sa, ra), (bs, rb, rs))
       (br, rank-place Sell p (s .sells) sr, rr),
       (bf, every-place (resting-before Sell) (resting-fair (s .next)) p (s .sells) (w .fair) sf, rf),
       (ba, apart-place (resting-before Sell) p (s .sells) (e2 .0) sa, ra),
-      (every-both (λ b. unlike (p .number) b && not (within Sell (p .price) (b .price))) (λ b. every (parted b) (s .sells)) (λ b. every (parted b) (place (resting-before Sell) p (s .sells))) (s .buys) (λ b h k. every-place (resting-before Sell) (parted b) p (s .sells) (grind (arith, tells)) k) (every-both (unlike (p .number)) (λ x. not (within Sell (p .price) (x .price))) _ (s .buys) (λ x h k. and-from _ _ h k) (e1 .0) (w .clear)) bs,
-      rb,
-      every-both (route-unlike (p .number)) (λ r. every (clear-of r) (s .sells)) (λ r. every (clear-of r) (place (resting-before Sell) p (s .sells))) (s .routes) (λ r h k. every-place (resting-before Sell) (clear-of r) p (s .sells) (grind (arith, tells)) k) (e2 .1) rs),
+      (
+        every-both (λ b. unlike (p .number) b && not (within Sell (p .price) (b .price))) (λ b. every (parted b) (s .sells)) (λ b. every (parted b) (place (resting-before Sell) p (s .sells))) (s .buys) (λ b h k. every-place (resting-before Sell) (parted b) p (s .sells) (grind (arith, tells)) k) (every-both (unlike (p .number)) (λ x. not (within Sell (p .price) (x .price))) _ (s .buys) (λ x h k. and-from _ _ h k) (e1 .0) (w .clear)) bs,
+        rb,
+        every-both (route-unlike (p .number)) (λ r. every (clear-of r) (s .sells)) (λ r. every (clear-of r) (place (resting-before Sell) p (s .sells))) (s .routes) (λ r h k. every-place (resting-before Sell) (clear-of r) p (s .sells) (grind (arith, tells)) k) (e2 .1) rs,
+      ),
     )
+
+-- what a sound book says of one side
+pub fair-of : (d : Side) (s : State) → Sound s → every (resting-fair (s .next)) (on d s) ≡ true
+fair-of Buy s h = h .1 .0
+fair-of Sell s h = h .1 .1
 
 rank-of : (d : Side) (s : State) → Sound s → in-rank (resting-before d) (on d s) ≡ true
 rank-of Buy s h = h .0 .0

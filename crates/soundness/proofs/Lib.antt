@@ -3,3 +3,5 @@ pub mod Trades
 pub mod Moves
 pub mod Keeps
 pub mod Hands
+pub mod Finds
+pub mod Kept

@@ -1,13 +1,14 @@
 -- What a test of every line, rank and distinct numbers keep when a line is placed, taken out or changed.
-use mathlib.Core.Path.{_≡_, refl, sym, ap, subst, _∙_}
-use mathlib.Core.Bool.{Bool, true, false, cond, not, _&&_, _||_}
+use mathlib.Core.Path.{_≡_, refl, sym, ap, _∙_}
+use mathlib.Core.Bool.{Bool, true, false, not, _&&_}
 use mathlib.Core.List.{List, [], _∷_, _++_}
 use Prim.Native.Nat.{ℕ}
 use native.Mathlib.Omega.{arith}
-use lib.Dec.{ltb, leb, eqb}
+use lib.Dec.{eqb}
 use Rattle.std.proofs.shelf.Ways.{tells}
 use Rattle.std.proofs.shelf.Tests.{and-parts, and-from, cond-both}
-use Rattle.ranking.specs.Place.{place, every, none-before, in-rank}
+use Rattle.std.specs.declared.option.Option.the-variants.{Some}
+use Rattle.ranking.specs.Place.{place, every, none-before, in-rank, head-of}
 use Rattle.ranking.proofs.Ranking.{place-in-rank}
 use Rattle.market.specs.declared.types.Side.{Side}
 use Rattle.market.specs.declared.types.Side.the-variants.{Buy, Sell}
@@ -28,6 +29,11 @@ every-place b t x (y ∷ ys) h k =
 pub every-imp : {X : Type 0} (t u : X → Bool) (xs : List X) → ((x : X) → t x ≡ true → u x ≡ true) → every t xs ≡ true → every u xs ≡ true
 every-imp t u [] f h = refl
 every-imp t u (x ∷ xs) f h = let p = and-parts (t x) (every t xs) h in and-from (u x) (every u xs) (f x (p .0)) (every-imp t u xs f (p .1))
+
+-- what stands first passes too
+pub every-first : {X : Type 0} (t : X → Bool) (x : X) (xs : List X) → Some x ≡ head-of xs → every t xs ≡ true → t x ≡ true
+every-first t x [] e h = cc
+every-first t x (y ∷ ys) e h = let same : x ≡ y = cc in ap t same ∙ and-parts (t y) (every t ys) h .0
 
 -- two tests of every line, and what follows from both
 pub every-both : {X : Type 0} (t u v : X → Bool) (xs : List X) → ((x : X) → t x ≡ true → u x ≡ true → v x ≡ true) → every t xs ≡ true → every u xs ≡ true → every v xs ≡ true
@@ -102,6 +108,13 @@ unlike n p = not (resting-bears n p)
 
 abbrev pub route-unlike : ℕ → Route → Bool
 route-unlike n r = not (route-bears n r)
+
+-- no line bears the number
+abbrev pub Absent : ℕ → List Resting → Type 0
+Absent n ps = every (unlike n) ps ≡ true
+
+abbrev pub Unsent : ℕ → List Route → Type 0
+Unsent n rs = every (route-unlike n) rs ≡ true
 
 pub apart-place : (b : Resting → Resting → Bool) (x : Resting) (xs : List Resting) → every (unlike (x .number)) xs ≡ true → resting-apart xs ≡ true → resting-apart (place b x xs) ≡ true
 apart-place b x [] h k = refl

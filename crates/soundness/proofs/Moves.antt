@@ -1,5 +1,5 @@
 -- What holds where a step of work trades, sends, takes off or rests.
-use mathlib.Core.Path.{_≡_, refl, subst}
+use mathlib.Core.Path.{_≡_, refl, subst, _∙_}
 use mathlib.Core.Bool.{Bool, true, false, cond, not, _&&_, _||_}
 use mathlib.Core.List.{List, [], _∷_}
 use mathlib.Core.Logic.{_⊎_, inl, inr, _≢_}
@@ -8,7 +8,7 @@ use native.Mathlib.Omega.{arith}
 use lib.Dec.{leb, eqb}
 use lib.ListN.{length}
 use Rattle.std.proofs.shelf.Ways.{tells}
-use Rattle.std.proofs.shelf.Tests.{true≢false, and-parts, or-parts, or-from, leb-false, eqb-false}
+use Rattle.std.proofs.shelf.Tests.{true≢false, and-parts, or-parts, or-from, leb-false, eqb-false, cond-true, cond-false}
 use Rattle.std.specs.declared.option.Option.{Option}
 use Rattle.std.specs.declared.option.Option.the-variants.{Some, None}
 use Rattle.ranking.specs.Place.{in-rank, none-before, head-of}
@@ -20,7 +20,7 @@ use Rattle.market.specs.declared.types.Resting.{Resting}
 use Rattle.market.specs.declared.types.Quotation.{Quotation}
 use Rattle.market.specs.declared.types.Order.{Order}
 use Rattle.market.specs.declared.types.Reason.{Reason}
-use Rattle.market.specs.declared.types.Reason.the-variants.{Unfilled, WouldLock, NoRoute, SideFull}
+use Rattle.market.specs.declared.types.Reason.the-variants.{NoRoute}
 use Rattle.market.specs.declared.types.Move.{Move}
 use Rattle.market.specs.declared.types.Move.the-variants.{Trade, Send, TakeOff, Rest}
 use Rattle.market.specs.Sides.{across-of, ahead, within, quotation-before}
@@ -28,7 +28,7 @@ use Rattle.market.specs.Legal.{goes-out, trades-past, never-rests, never-locks}
 use Rattle.market.specs.States.{State, Quotes, on, quoted}
 use Rattle.market.specs.Reports.{reason-number}
 use Rattle.market.specs.Steps.{any-better, resting-near, quotation-near, no-route, side-full, ends, sends, trades, move-of}
-use Rattle.soundness.specs.Rules.{trades-with, goes-to, touches, No-trade, No-send, Rule, trading, sending, unroutable, unfilled, locking, crowded, resting}
+use Rattle.soundness.specs.Rules.{trades-with, goes-to, touches, No-trade, No-send, Rule, trading, sending, unroutable, unfilled, locking, crowded, resting, Moves-by-rule}
 
 same-some : {X : Type 0} (x y : X) (o : Option X) → Some x ≡ o → Some y ≡ o → x ≡ y
 same-some x y o e f = cc
@@ -41,7 +41,7 @@ module _ (s : State) (q : Quotes) (o : Order) where
   rule-ends : No-trade s q o → No-send q o → Rule s q o (ends (touches s q o) (side-full (o .side) s) (o .kind))
   rule-ends a b =
       branch (never-rests (o .kind)) (λ t. unfilled a b t)
-      (λ t. branch (never-locks (o .kind) && touches s q o) (λ u. locking a b t u) (λ u. branch (side-full (o .side) s) (λ v. crowded a b t v) (λ v. resting a b t u v)))
+      (λ t. branch (never-locks (o .kind) && touches s q o) (λ u. locking a b t u) (λ u. branch (side-full (o .side) s) (λ v. crowded a b t u v) (λ v. resting a b t u v)))
 
   rule-sends : (oq : Option Quotation) → oq ≡ head-of (quoted (across-of (o .side)) q) → No-trade s q o → {m : Move} → (No-send q o → Rule s q o m) → Rule s q o (sends o oq (no-route s) m)
   rule-sends None e a k = k (λ x f. cc)
@@ -58,6 +58,49 @@ module _ (s : State) (q : Quotes) (o : Order) where
   -- every move is made by its rule
   pub rule : Rule s q o (move-of s q o)
   rule = rule-trades (head-of (on (across-of (o .side)) s)) refl (λ a. rule-sends (head-of (quoted (across-of (o .side)) q)) refl a (λ b. rule-ends a b))
+
+-- no rule makes another move
+module _ (o : Order) where
+  takes : (op : Option Resting) (qs : List Quotation) (m : Move) (x : Resting) → Some x ≡ op → (within (o .side) (o .limit) (x .price) && (trades-past (o .kind) || not (any-better (across-of (o .side)) (x .price) qs))) ≡ true → trades o op qs m ≡ Trade (x .number) (x .price) (x .shown)
+  takes None qs m x e t = cc
+  takes (Some y) qs m x e t =
+      let same : x ≡ y = cc in
+      subst (λ (z : Resting). trades o (Some z) qs m ≡ Trade (x .number) (x .price) (x .shown)) same (cond-true _ _ m t)
+
+  takes-none : (op : Option Resting) (qs : List Quotation) (m : Move) → ((x : Resting) → Some x ≡ op → (within (o .side) (o .limit) (x .price) && (trades-past (o .kind) || not (any-better (across-of (o .side)) (x .price) qs))) ≡ false) → trades o op qs m ≡ m
+  takes-none None qs m f = refl
+  takes-none (Some x) qs m f = cond-false _ _ m (f x refl)
+
+  goes : (oq : Option Quotation) (unable : Bool) (m : Move) (x : Quotation) → Some x ≡ oq → goes-to o x ≡ true → sends o oq unable m ≡ cond unable (TakeOff NoRoute) (Send x)
+  goes None unable m x e t = cc
+  goes (Some y) unable m x e t =
+      let same : x ≡ y = cc in
+      subst (λ (z : Quotation). sends o (Some z) unable m ≡ cond unable (TakeOff NoRoute) (Send x)) same (cond-true _ _ m t)
+
+  goes-none : (oq : Option Quotation) (unable : Bool) (m : Move) → ((x : Quotation) → Some x ≡ oq → goes-to o x ≡ false) → sends o oq unable m ≡ m
+  goes-none None unable m f = refl
+  goes-none (Some x) unable m f = cond-false _ _ m (f x refl)
+
+module _ (s : State) (q : Quotes) (o : Order) where
+  past-trade : (m : Move) → No-trade s q o → trades o (head-of (on (across-of (o .side)) s)) (quoted (across-of (o .side)) q) m ≡ m
+  past-trade m a = takes-none o (head-of (on (across-of (o .side)) s)) (quoted (across-of (o .side)) q) m a
+
+  past-both : No-trade s q o → No-send q o → move-of s q o ≡ ends (touches s q o) (side-full (o .side) s) (o .kind)
+  past-both a b = past-trade _ a ∙ goes-none o (head-of (quoted (across-of (o .side)) q)) (no-route s) _ b
+
+  pub one-rule : (m : Move) → Rule s q o m → move-of s q o ≡ m
+  one-rule m (trading x e t) = takes o (head-of (on (across-of (o .side)) s)) (quoted (across-of (o .side)) q) _ x e t
+  one-rule m (sending x a e t u) = past-trade _ a ∙ goes o (head-of (quoted (across-of (o .side)) q)) (no-route s) _ x e t ∙ cond-false (no-route s) _ _ u
+  one-rule m (unroutable x a e t u) = past-trade _ a ∙ goes o (head-of (quoted (across-of (o .side)) q)) (no-route s) _ x e t ∙ cond-true (no-route s) _ _ u
+  one-rule m (unfilled a b t) = past-both a b ∙ cond-true (never-rests (o .kind)) _ _ t
+  one-rule m (locking a b t u) = past-both a b ∙ cond-false (never-rests (o .kind)) _ _ t ∙ cond-true (never-locks (o .kind) && touches s q o) _ _ u
+  one-rule m (crowded a b t u v) =
+      past-both a b ∙ cond-false (never-rests (o .kind)) _ _ t ∙ cond-false (never-locks (o .kind) && touches s q o) _ _ u ∙ cond-true (side-full (o .side) s) _ _ v
+  one-rule m (resting a b t u v) =
+      past-both a b ∙ cond-false (never-rests (o .kind)) _ _ t ∙ cond-false (never-locks (o .kind) && touches s q o) _ _ u ∙ cond-false (side-full (o .side) s) _ _ v
+
+pub moves-by-rule : Moves-by-rule
+moves-by-rule s q o = (rule s q o, one-rule s q o)
 
 -- what each move says of the book and the board
 abbrev pub Made : State → Quotes → Order → Move → Type 0
@@ -79,7 +122,7 @@ made-by {s} (sending x a f t u) = let r = route-left s u in (f, t, r .0, r .1)
 made-by (unroutable x a f t u) = omega arith
 made-by (unfilled a b t) = omega arith
 made-by (locking a b t u) = omega arith
-made-by (crowded a b t u) = omega arith
+made-by (crowded a b t u v) = omega arith
 made-by {s} {q} {o} (resting a b t u v) = (a, b, t, u, leb-false 256 (length (on (o .side) s)) v)
 
 pub made : (s : State) (q : Quotes) (o : Order) (m : Move) → move-of s q o ≡ m → Made s q o m

@@ -1,2 +1,4 @@
 pub mod Rest
 pub mod Rules
+pub mod Stands
+pub mod Kept

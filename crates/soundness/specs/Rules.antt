@@ -12,7 +12,7 @@ use Rattle.market.specs.declared.types.Move.the-variants.{Trade, Send, TakeOff,
 use Rattle.market.specs.Sides.{across-of, within}
 use Rattle.market.specs.Legal.{goes-out, trades-past, never-rests, never-locks}
 use Rattle.market.specs.States.{State, Quotes, on, quoted}
-use Rattle.market.specs.Steps.{any-better, resting-near, quotation-near, no-route, side-full}
+use Rattle.market.specs.Steps.{any-better, resting-near, quotation-near, no-route, side-full, move-of}
 
 -- the order trades with this resting order, if it is the first across
 abbrev pub trades-with : Quotes → Order → Resting → Bool
@@ -34,12 +34,16 @@ No-trade s q o = (x : Resting) → Some x ≡ head-of (on (across-of (o .side)) 
 abbrev pub No-send : Quotes → Order → Type 0
 No-send q o = (x : Quotation) → Some x ≡ head-of (quoted (across-of (o .side)) q) → goes-to o x ≡ false
 
--- the rule by which a move is made
+-- the rule by which a move is made: each applies where none before it does
 pub data Rule (s : State) (q : Quotes) (o : Order) : Move → Type 0 where
   trading : (x : Resting) → Some x ≡ head-of (on (across-of (o .side)) s) → trades-with q o x ≡ true → Rule s q o (Trade (x .number) (x .price) (x .shown))
   sending : (x : Quotation) → No-trade s q o → Some x ≡ head-of (quoted (across-of (o .side)) q) → goes-to o x ≡ true → no-route s ≡ false → Rule s q o (Send x)
   unroutable : (x : Quotation) → No-trade s q o → Some x ≡ head-of (quoted (across-of (o .side)) q) → goes-to o x ≡ true → no-route s ≡ true → Rule s q o (TakeOff NoRoute)
   unfilled : No-trade s q o → No-send q o → never-rests (o .kind) ≡ true → Rule s q o (TakeOff Unfilled)
   locking : No-trade s q o → No-send q o → never-rests (o .kind) ≡ false → (never-locks (o .kind) && touches s q o) ≡ true → Rule s q o (TakeOff WouldLock)
-  crowded : No-trade s q o → No-send q o → never-rests (o .kind) ≡ false → side-full (o .side) s ≡ true → Rule s q o (TakeOff SideFull)
+  crowded : No-trade s q o → No-send q o → never-rests (o .kind) ≡ false → (never-locks (o .kind) && touches s q o) ≡ false → side-full (o .side) s ≡ true → Rule s q o (TakeOff SideFull)
   resting : No-trade s q o → No-send q o → never-rests (o .kind) ≡ false → (never-locks (o .kind) && touches s q o) ≡ false → side-full (o .side) s ≡ false → Rule s q o Rest
+
+-- THE LAW: the move of a step is the one that a rule makes, and no rule makes another
+abbrev pub Moves-by-rule : Type 0
+Moves-by-rule = (s : State) (q : Quotes) (o : Order) → Rule s q o (move-of s q o) × ((m : Move) → Rule s q o m → move-of s q o ≡ m)

@@ -1,13 +1,13 @@
 -- A quote and a take keep what holds of a list of a table board.
-use mathlib.Core.Path.{_≡_, refl, sym, ap, subst, _∙_}
-use mathlib.Core.Bool.{Bool, true, false, cond, not, _&&_, _||_}
+use mathlib.Core.Path.{_≡_, refl, sym, subst, _∙_}
+use mathlib.Core.Bool.{Bool, true, false, _||_}
 use mathlib.Core.List.{List}
 use Prim.Native.Nat.{ℕ, _<_}
 use native.Mathlib.Omega.{arith}
 use lib.Dec.{leb, eqb}
 use lib.ListN.{length}
 use Rattle.std.specs.declared.option.Option.{Option}
-use Rattle.std.specs.declared.option.Option.the-variants.{Some, None}
+use Rattle.std.specs.declared.option.Option.the-variants.{None}
 use Rattle.std.specs.declared.result.Result.{Result}
 use Rattle.std.specs.declared.result.Result.the-variants.{Ok, Err}
 use Rattle.std.proofs.shelf.Tests.{cond-both}
@@ -19,7 +19,7 @@ use Rattle.market.specs.declared.types.Side.{Side}
 use Rattle.market.specs.declared.types.Quotation.{Quotation}
 use Rattle.market.specs.declared.types.Refusal.{Refusal}
 use Rattle.market.specs.declared.types.Refusal.the-variants.{Size, Price, Venue}
-use Rattle.market.specs.Legal.{legal-price, legal-size, legal-venue}
+use Rattle.market.specs.Legal.{legal-price, legal-venue}
 use Rattle.market.specs.Sides.{quotation-before}
 use Rattle.market.specs.Quotes.{quotation-legal, without, requoted, Showable}
 use Rattle.market.specs.Calls.{unless, or-else}

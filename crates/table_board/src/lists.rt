@@ -1,11 +1,8 @@
 // What is done with the list of one side of a table board.
 ghost use mathlib.Core.Path.{_≡_};
-ghost use mathlib.Core.Bool.{true};
 ghost use Prim.Native.Nat.{_<_};
 ghost use lib.ListN.{length};
 ghost use Rattle.ranking.specs.Lists.{lines-of, most-of};
-ghost use Rattle.ranking.specs.Place.{in-rank};
-ghost use Rattle.market.specs.Sides.{quotation-before};
 ghost use Rattle.market.specs.Quotes.{without, requoted};
 ghost use Rattle.table_board.specs.Quoting.{TakenFrom};
 use market::ranks::QuotationOfVenue;

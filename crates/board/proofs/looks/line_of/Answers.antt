@@ -1,4 +1,4 @@
-use mathlib.Core.Path.{sym, ap, _∙_}
+use mathlib.Core.Path.{sym}
 use native.Mathlib.Omega.{arith}
 use Rattle.board.proofs.Places.{nth-in, found-here, found-more, found-none}
 use Rattle.board.proofs.looks.line_of.Needs as need

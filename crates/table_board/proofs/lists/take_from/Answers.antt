@@ -1,6 +1,5 @@
 use mathlib.Core.Path.{_≡_, refl, sym, ap, _∙_}
 use native.Mathlib.Omega.{arith}
-use lib.ListN.{set}
 use Rattle.std.specs.Holes.{removed}
 use Rattle.ranking.specs.Lists.{lines-of, most-of}
 use Rattle.table_board.proofs.Finding.{no-size, as-it-was, its-size, all-taken, some-taken}
