@@ -1,1 +1,10 @@
-
+pub mod Numbers
+pub mod Words
+pub mod Verdicts
+pub mod Cuts
+pub mod Wants
+pub mod Strays
+pub mod Moves
+pub mod Texts
+pub mod Progress
+pub mod Same

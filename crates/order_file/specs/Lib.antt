@@ -1,1 +1,5 @@
-
+pub mod Faults
+pub mod Instructions
+pub mod Fields
+pub mod Lines
+pub mod Files

@@ -3,3 +3,4 @@ pub mod Works
 pub mod Performs
 pub mod Quotes
 pub mod Days
+pub mod Texts
