@@ -64,16 +64,9 @@ abbrev pub cut : List ℕ → List (List ℕ)
 cut [] = [] ∷ []
 cut (b ∷ bs) = cond (eqb b 32) ([] ∷ cut bs) (onto b (cut bs))
 
-abbrev pub next : Place → Place
-next p = record { line = p .line; field = p .field + 1 }
-
-abbrev pub Heads : Part → Result (Part × Part) Fault → Type 0
-Heads p (Ok x) = (cut (text p) ≡ text (x .0) ∷ cut (text (x .1))) × (x .0 .place ≡ p .place) × (x .1 .place ≡ next (p .place))
-Heads p (Err f) = (cut (text p) ≡ text p ∷ []) × (f ≡ bad-line (p .place .line))
-
-abbrev pub Ends : Part → Result Part Fault → Type 0
-Ends p (Ok x) = (cut (text p) ≡ text x ∷ []) × (x .place ≡ p .place)
-Ends p (Err f) = (1 < length (cut (text p))) × (f ≡ bad-line (p .place .line))
+abbrev pub Heads : List ℕ → Option (RefT (List ℕ) × RefT (List ℕ)) → Type 0
+Heads bs None = cut bs ≡ bs ∷ []
+Heads bs (Some x) = cut bs ≡ x .0 .now ∷ cut (x .1 .now)
 
 abbrev pub values : Row → List Part
 values r = r .side ∷ r .price ∷ r .size ∷ r .show ∷ r .kind ∷ r .user ∷ r .number ∷ r .venue ∷ []

@@ -8,6 +8,8 @@ use crate::instructions::Verb;
 use market::types::Kind;
 use market::types::Side;
 
+const LARGEST_NUMBER: u64 = 4_294_967_295;
+
 // Where a field stands. Lines and fields count from 1.
 #[derive(Clone, Copy)]
 pub struct Place {
@@ -46,7 +48,7 @@ fn number_of(bytes: &[u8]) -> Option<u32>
             return None;
         }
         let more = value as u64 * 10 + (*b - b'0') as u64;
-        if more > 0xffff_ffff {
+        if more > LARGEST_NUMBER {
             return None;
         }
         value = more as u32;

@@ -1,7 +1,7 @@
-// The order file: its reader, its writer and its faults.
+// The order file: its instructions, its reader, its writer and its faults.
 pub mod faults;
-pub mod fields;
+mod fields;
 pub mod instructions;
-pub mod lines;
+mod lines;
 pub mod reader;
 pub mod writer;

@@ -1,7 +1,6 @@
 // The lines of values: cut into fields, and read as instructions.
 ghost use mathlib.Core.Path.{_≡_};
-ghost use Prim.Native.Nat.{ℕ, _+_, _<_, _^_};
-ghost use Rattle.order_file.specs.Lines.{Finds, Heads, Ends, Rows, values, Terms-taken, Word-alone, Taken, Accepts, Faults};
+ghost use Rattle.order_file.specs.Lines.{Finds, Heads, Rows, values, Terms-taken, Word-alone, Taken, Accepts, Faults};
 ghost use Rattle.order_file.specs.declared.instructions.Verb.the-variants.{Enter as Enter′, Replace as Replace′, Cut as Cut′, Cancel as Cancel′, Reply as Reply′, Quote as Quote′, Close as Close′, Expire as Expire′};
 use crate::faults::Fault;
 use crate::fields::Part;
@@ -37,45 +36,41 @@ pub fn find(bytes: &[u8], byte: u8) -> Option<usize>
     None
 }
 
-// The first field of what is left of a line, and what follows its space.
-fn head(rest: Part<'_>) -> Result<(Part<'_>, Part<'_>), Fault>
-    requires { ⌜ rest .place .field + 1 < 2 ^ 32 ⌝ }
-    ensures { λ r. ⌜ Heads (rest .entry) r ⌝ }
+// The first field of what is left of a line and what follows its space, or nothing at the last field.
+fn head(bytes: &[u8]) -> Option<(&[u8], &[u8])>
+    ensures { λ r. ⌜ Heads (now (bytes .entry)) r ⌝ }
 {
-    let Part { bytes, place } = rest;
     match find(bytes, b' ') {
-        Some(i) => {
-            let after = Place { line: place.line, field: place.field + 1 };
-            Ok((Part { bytes: &bytes[0..i], place }, Part { bytes: &bytes[i + 1..], place: after }))
-        }
-        None => Err(Fault::of_line(place.line)),
-    }
-}
-
-// The last field of a line: no space follows.
-fn last(rest: Part<'_>) -> Result<Part<'_>, Fault>
-    ensures { λ r. ⌜ Ends (rest .entry) r ⌝ }
-{
-    match find(rest.bytes, b' ') {
-        Some(_) => Err(Fault::of_line(rest.place.line)),
-        None => Ok(rest),
+        Some(i) => Some((&bytes[0..i], &bytes[i + 1..])),
+        None => None,
     }
 }
 
 fn cut_row(bytes: &[u8], line: u32) -> Result<Row<'_>, Fault>
     ensures { λ r. ⌜ Rows (now (bytes .entry)) line r ⌝ }
 {
-    let all = Part { bytes, place: Place { line, field: 1 } };
-    let (call, rest) = head(all)?;
-    let (side, rest) = head(rest)?;
-    let (price, rest) = head(rest)?;
-    let (size, rest) = head(rest)?;
-    let (show, rest) = head(rest)?;
-    let (kind, rest) = head(rest)?;
-    let (user, rest) = head(rest)?;
-    let (number, rest) = head(rest)?;
-    let venue = last(rest)?;
-    Ok(Row { call, side, price, size, show, kind, user, number, venue })
+    let Some((call, rest)) = head(bytes) else { return Err(Fault::of_line(line)) };
+    let Some((side, rest)) = head(rest) else { return Err(Fault::of_line(line)) };
+    let Some((price, rest)) = head(rest) else { return Err(Fault::of_line(line)) };
+    let Some((size, rest)) = head(rest) else { return Err(Fault::of_line(line)) };
+    let Some((show, rest)) = head(rest) else { return Err(Fault::of_line(line)) };
+    let Some((kind, rest)) = head(rest) else { return Err(Fault::of_line(line)) };
+    let Some((user, rest)) = head(rest) else { return Err(Fault::of_line(line)) };
+    let Some((number, venue)) = head(rest) else { return Err(Fault::of_line(line)) };
+    if let Some(_) = head(venue) {
+        return Err(Fault::of_line(line));
+    }
+    Ok(Row {
+        call: Part { bytes: call, place: Place { line, field: 1 } },
+        side: Part { bytes: side, place: Place { line, field: 2 } },
+        price: Part { bytes: price, place: Place { line, field: 3 } },
+        size: Part { bytes: size, place: Place { line, field: 4 } },
+        show: Part { bytes: show, place: Place { line, field: 5 } },
+        kind: Part { bytes: kind, place: Place { line, field: 6 } },
+        user: Part { bytes: user, place: Place { line, field: 7 } },
+        number: Part { bytes: number, place: Place { line, field: 8 } },
+        venue: Part { bytes: venue, place: Place { line, field: 9 } },
+    })
 }
 
 // The terms of an order, which enter and replace give alike.

@@ -27,7 +27,7 @@ const SHORTEST_LINE: usize = 9;
 
 // Where the reader stands.
 #[derive(Clone, Copy)]
-pub enum Condition {
+enum Condition {
     BeforeNames,
     AmongValues,
     Stopped,
@@ -35,7 +35,7 @@ pub enum Condition {
 
 // What the rest of a file begins with.
 #[derive(Clone, Copy)]
-pub enum Line<'a> {
+enum Line<'a> {
     // A line without its end, and what follows.
     Ended(&'a [u8], &'a [u8]),
     // Bytes with no line end.
@@ -45,7 +45,7 @@ pub enum Line<'a> {
 }
 
 #[derive(Drop)]
-pub struct Reader<'a> {
+struct Reader<'a> {
     // What is not read yet, and the number of its first line.
     rest: &'a [u8],
     line: u32,

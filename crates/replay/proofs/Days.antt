@@ -16,6 +16,7 @@ use Rattle.replay.specs.Days.{Told, Day, done, then}
 use Rattle.replay.specs.Records.{record-of, whole-of, told-of}
 use Rattle.replay.specs.Desks.{Followed}
 use Rattle.replay.specs.Sessions.{Session}
+use Rattle.replay.proofs.Laws.{lawful}
 use Rattle.replay.specs.declared.record.Line.{Line}
 use Rattle.replay.specs.declared.record.Record.{Record}
 
@@ -48,12 +49,14 @@ module _ (is : List Instruction) where
   so-far-all n s q p r lines h (us, m, f, k) w e =
       let end : Day (drop n is) s q p [] [] s q p = subst (λ (zs : List Instruction). Day zs s q p [] [] s q p) (sym (at-drop-all (λ zs. zs) is n h)) done in
       let all = f [] [] s q p end in
+      let day : Day is (new-state 1) no-quotes ready (us ++ []) (map told-of lines) s q p = subst (λ (z : List Told). Day is (new-state 1) no-quotes ready (us ++ []) z s q p) (append-nil m ∙ sym (e ∙ k w)) all in
       record {
         turns = us ++ [];
         book = s;
         board = q;
         pass = p;
-        day = subst (λ (z : List Told). Day is (new-state 1) no-quotes ready (us ++ []) z s q p) (append-nil m ∙ sym (e ∙ k w)) all;
+        day = day;
+        lawful = lawful (us ++ []) (map told-of lines) s p day;
       }
 
 -- what is made has what follows from what it has

@@ -49,6 +49,7 @@ onward-start s q p r = ([], [], (λ ts l s′ q′ p′ f. f), noted-none r)
 
 -- a step with the book's own pass
 pub record Stepped (s s′ : State) (q q′ : Quotes) (o : Order) (rep : Report) (p′ : Pass) : Type 0 where
+  pub number-fits : fits (o .number) s ≡ true
   pub report-is : rep ≡ step s q o .report
   pub state-is : s′ ≡ step s q o .state
   pub quotes-is : q′ ≡ step s q o .quotes
@@ -61,7 +62,7 @@ own-work a b s q o e f = cond-true (eqb a b) _ _ (eq-eqb a b e) ∙ cond-true (f
 pub work-steps : (a b : ℕ) (s s′ : State) (q q′ : Quotes) (o : Order) (rep : Report) (p′ : Pass) → a ≡ b → fits (o .number) s ≡ true → answer (rep ∷ []) s′ q′ p′ ≡ own-call (eqb a b) q Work s (in-hand o) → Stepped s s′ q q′ o rep p′
 work-steps a b s s′ q q′ o rep p′ e f h =
     let g : answer (rep ∷ []) s′ q′ p′ ≡ stepped (step s q o) = h ∙ own-work a b s q o e f in
-    record { report-is = same (ap (λ z. z .says) g); state-is = ap (λ z. z .state) g; quotes-is = ap (λ z. z .quotes) g; pass-is = ap (λ z. z .pass) g }
+    record { number-fits = f; report-is = same (ap (λ z. z .says) g); state-is = ap (λ z. z .state) g; quotes-is = ap (λ z. z .quotes) g; pass-is = ap (λ z. z .pass) g }
   where
     same : reports (rep ∷ []) ≡ reports (step s q o .report ∷ []) → rep ≡ step s q o .report
     same x = cc
@@ -79,7 +80,7 @@ finished-done s₀ s s′ q₀ q q′ p₀ r₀ r r′ o rep (us, m, f, n) w k =
     let last : Finishes (step s q o .state) (step s q o .quotes) (held-by (step s q o .left)) [] [] (step s q o .state) (step s q o .quotes) ready =
       subst (λ (p : Pass). Finishes (step s q o .state) (step s q o .quotes) p [] [] (step s q o .state) (step s q o .quotes) ready) (w .pass-is) idle
     in
-    let all : Finishes s₀ q₀ p₀ (us ++ turn q Work ∷ []) (m ++ report (step s q o .report) ∷ []) (step s q o .state) (step s q o .quotes) ready = f _ _ _ _ _ (steps o last) in
+    let all : Finishes s₀ q₀ p₀ (us ++ turn q Work ∷ []) (m ++ report (step s q o .report) ∷ []) (step s q o .state) (step s q o .quotes) ready = f _ _ _ _ _ (steps o (w .number-fits) last) in
     let here : Finishes s₀ q₀ p₀ (us ++ turn q Work ∷ []) (m ++ report rep ∷ []) s′ q′ ready =
       subst (λ (x : Report). Finishes s₀ q₀ p₀ (us ++ turn q Work ∷ []) (m ++ report x ∷ []) s′ q′ ready) (sym (w .report-is))
       (subst (λ (x : State). Finishes s₀ q₀ p₀ (us ++ turn q Work ∷ []) (m ++ report (step s q o .report) ∷ []) x q′ ready) (sym (w .state-is))
@@ -98,7 +99,7 @@ onward-more s₀ s s′ q₀ q q′ p₀ r₀ r r′ o o′ rep (us, m, f, n) w 
 
     on : (ts : List Turn) (l : List Told) (z : State) (x : Quotes) (p : Pass) → Finishes s′ q′ (in-hand o′) ts l z x p → Finishes s₀ q₀ p₀ ((us ++ turn q Work ∷ []) ++ ts) ((m ++ report rep ∷ []) ++ l) z x p
     on ts l z x p g =
-        let all : Finishes s₀ q₀ p₀ (us ++ turn q Work ∷ ts) (m ++ report (step s q o .report) ∷ l) z x p = f _ _ _ _ _ (steps o (back ts l z x p g)) in
+        let all : Finishes s₀ q₀ p₀ (us ++ turn q Work ∷ ts) (m ++ report (step s q o .report) ∷ l) z x p = f _ _ _ _ _ (steps o (w .number-fits) (back ts l z x p g)) in
         subst (λ (y : List Turn). Finishes s₀ q₀ p₀ y ((m ++ report rep ∷ []) ++ l) z x p) (sym (append-assoc us (turn q Work ∷ []) ts))
         (subst (λ (y : List Told). Finishes s₀ q₀ p₀ (us ++ turn q Work ∷ ts) y z x p) (sym (append-assoc m (report rep ∷ []) l))
         (subst (λ (y : Report). Finishes s₀ q₀ p₀ (us ++ turn q Work ∷ ts) (m ++ report y ∷ l) z x p) (sym (w .report-is)) all))

@@ -1,5 +1,6 @@
 -- A day: what an order file's instructions do to a book and a table board, and what is told of it.
 use mathlib.Core.Path.{_≡_}
+use mathlib.Core.Bool.{true}
 use mathlib.Core.List.{List, [], _∷_, _++_, map}
 use Prim.Native.Nat.{ℕ}
 use Rattle.std.specs.declared.option.Option.{Option}
@@ -11,7 +12,7 @@ use Rattle.market.specs.declared.types.Refusal.{Refusal}
 use Rattle.market.specs.declared.types.Call.{Call}
 use Rattle.market.specs.declared.types.Call.the-variants.{Enter, Work, Cut, Cancel, Replace, Reply, Close, Expire}
 use Rattle.market.specs.declared.types.Order.{Order}
-use Rattle.market.specs.States.{State, Quotes, quoted, put-quotes}
+use Rattle.market.specs.States.{State, Quotes, quoted, put-quotes, fits}
 use Rattle.market.specs.Reports.{refusal-number}
 use Rattle.market.specs.Quotes.{requoted}
 use Rattle.market.specs.Steps.{step}
@@ -34,11 +35,11 @@ tell (refused n) = refusal n ∷ []
 abbrev pub turn : Quotes → Call → Turn
 turn q c = record { quotes = q; call = c }
 
--- the order in hand is worked to its end: a step, and then the others
+-- the order in hand is worked to its end: a step, and then the others; its number fits the book, so that no step is refused
 pub data Finishes : State → Quotes → Pass → List Turn → List Told → State → Quotes → Pass → Type 0 where
   idle : {s : State} {q : Quotes} → Finishes s q ready [] [] s q ready
   over : {s : State} {q : Quotes} → Finishes s q ended [] [] s q ended
-  steps : {s s′ : State} {q q′ : Quotes} {p′ : Pass} (o : Order) {ts : List Turn} {l : List Told} →
+  steps : {s s′ : State} {q q′ : Quotes} {p′ : Pass} (o : Order) {ts : List Turn} {l : List Told} → fits (o .number) s ≡ true →
     Finishes (step s q o .state) (step s q o .quotes) (held-by (step s q o .left)) ts l s′ q′ p′ →
     Finishes s q (in-hand o) (turn q Work ∷ ts) (report (step s q o .report) ∷ l) s′ q′ p′
 

@@ -14,17 +14,19 @@ use Rattle.order_file.specs.Faults.{fault-text}
 use Rattle.order_file.specs.Files.{most-bytes, Fits, text-of, Bad-file}
 use Rattle.laws.specs.Strings.{Turn}
 use Rattle.replay.specs.Days.{Told, Day}
+use Rattle.replay.specs.Laws.{Lawful}
 use Rattle.replay.specs.Records.{told-of, told-text}
 use Rattle.replay.specs.declared.record.Line.{Line}
 
 -- the instructions followed over a new book, whose first order gets the number 1, and a table board with no line:
--- the turns that they make, all that is told, and the book, the board and the pass at the end
+-- the turns that they make, all that is told, and the book, the board and the pass at the end; the laws hold for them
 pub record Session (is : List Instruction) (told : List Told) : Type 0 where
   pub turns : List Turn
   pub book : State
   pub board : Quotes
   pub pass : Pass
   pub day : Day is (new-state 1) no-quotes ready turns told book board pass
+  pub lawful : Lawful turns told book pass
 
 abbrev pub Traded : List Instruction → List Line → Type 0
 Traded is lines = Session is (map told-of lines)

@@ -20,8 +20,8 @@ pub returns-then-b-lt48 : need.returns-then-b-lt48
 returns-then-b-lt48 c = other-not (c .args .bytes .now) (c .loop-b .b-index) (c .loop-b-test .taken) (λ h.
     elim (c .then-b-lt48 .came) [ then-b-lt48·by·then-b-lt48 w ↦ omega arith | then-b-lt48·by·else-b-lt48·then-b-gt57 w ↦ omega arith ])
 
-pub returns-then-more-gt4294967295 : need.returns-then-more-gt4294967295
-returns-then-more-gt4294967295 c =
+pub returns-then-more-gt-LARGEST-NUMBER : need.returns-then-more-gt-LARGEST-NUMBER
+returns-then-more-gt-LARGEST-NUMBER c =
     let g = longer (c .args .bytes .now) (c .loop-b .b-index) (c .loop-b .value) (c .loop-b-test .taken) (c .loop-b .inv .0) (c .loop-b .inv .2) (c .if-b-lt48 .left) (c .if-b-gt57 .left) in
     large-not (c .args .bytes .now) (c .loop-b .b-index + 1) (omega arith)
 
