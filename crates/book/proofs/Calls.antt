@@ -78,7 +78,7 @@ module _ (s : State) (q : Quotes) where
       let a : off ≡ off-report Replaced (total (p .spot .line)) (p .side) (p .spot .line) = eoff ∙ ap (λ y. off-report Replaced (total y) (p .side) y) ex in
       let b : o ≡ entered (p .side) t (s₁ .next) = eo ∙ ap (entered (p .side) t) en in
       let c : answer (off ∷ r ∷ []) s₂ q (in-hand o) ≡ admit (off ∷ []) (p .side) t s₁ q =
-        ap (λ y. answer (off ∷ y ∷ []) s₂ q (in-hand o)) er ∙ ap (λ y. answer (off ∷ in-report y ∷ []) s₂ q (in-hand y)) b ∙ ap (λ y. answer (off ∷ in-report (entered (p .side) t (s₁ .next)) ∷ []) y q (in-hand (entered (p .side) t (s₁ .next)))) e₂
+      ap (λ y. answer (off ∷ y ∷ []) s₂ q (in-hand o)) er ∙ ap (λ y. answer (off ∷ in-report y ∷ []) s₂ q (in-hand y)) b ∙ ap (λ y. answer (off ∷ in-report (entered (p .side) t (s₁ .next)) ∷ []) y q (in-hand (entered (p .side) t (s₁ .next)))) e₂
       in
       c ∙ ap (λ y. admit (y ∷ []) (p .side) t s₁ q) a ∙ ap (λ y. admit (off-report Replaced (total (p .spot .line)) (p .side) (p .spot .line) ∷ []) (p .side) t y q) e₁
       ∙ replace-checked t n l _ (passed-by s q ready _ (numbers-refusal s) _ (numbers s z) refl ∙ sym (ap (λ y. replace-at t y s q) f))

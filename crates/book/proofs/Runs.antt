@@ -37,10 +37,11 @@ module _ (l₀ : List Report) where
       let x : drop (n + 1) (set l n (r .0)) ≡ drop (n + 1) l = drop-set-lt (n + 1) l n (r .0) (omega arith) in
       let y : drop (n + 1) l ≡ drop (n + 1) l₀ = sym (drop-drop 1 n l) ∙ ap (drop 1) d ∙ drop-drop 1 n l₀ in
       let front : take (n + 1) (set l n (r .0)) ≡ take n l ++ (step s q o .report ∷ []) = take-more-set l n (r .0) h ∙ ap (λ z. take n l ++ (z ∷ [])) r0 in
-      let F : List Report → Option Order → State → Quotes → Run = λ rs o′ u v. before-run rs (run b o′ u v) in
-      (x ∙ y,
+      let F : List Report → Option Order → State → Quotes → Run = λ rs o′ u v. before-run rs (run b o′ u v) in (
+        x ∙ y,
         ap (λ z. F z left s′ q′) front ∙ ap (λ z. F (take n l ++ (step s q o .report ∷ [])) z s′ q′) (sym w ∙ r1) ∙ ap (λ z. F (take n l ++ (step s q o .report ∷ [])) (step s q o .left) z q′) rs
-        ∙ ap (λ z. F (take n l ++ (step s q o .report ∷ [])) (step s q o .left) (step s q o .state) z) rq ∙ sym (run-on (take n l) (length l₀ - n) b o s q fewer) ∙ a)
+            ∙ ap (λ z. F (take n l ++ (step s q o .report ∷ [])) (step s q o .left) (step s q o .state) z) rq ∙ sym (run-on (take n l) (length l₀ - n) b o s q fewer) ∙ a,
+      )
 
   -- nothing is left to run
   ran : (t : Run) (l : List Report) (n : ℕ) (o : Option Order) (s : State) (q : Quotes) → n ≤ length l → drop n l ≡ drop n l₀ → before-run (take n l) (record { reports = []; state = s; quotes = q; left = o }) ≡ t → Ran t s q l₀ l n o

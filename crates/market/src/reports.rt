@@ -118,7 +118,12 @@ impl fmt::Display for Dealt as DealtDisplay {
     ghost shown = { λ d. Some (side-word (d .side) ++ 32 ∷ (decimal (d .price) ++ 32 ∷ (decimal (d .shares) ++ 32 ∷ (shown (cell-of (d .ending .held)) ++ 32 ∷ shown (cell-of (d .ending .other)))))) };
 
     fn fmt<W: fmt::Write>(&self, f: &mut fmt::Formatter<W>) -> fmt::Result {
-        let Dealt { side, price, shares, ending } = *self;
+        let Dealt {
+            side,
+            price,
+            shares,
+            ending,
+        } = *self;
         write!(f, "{side} {price} {shares} {ending}")
     }
 }
@@ -128,9 +133,26 @@ pub impl fmt::Display for Report as ReportDisplay {
     ghost shown = { λ r. Some (report-line r) };
 
     fn fmt<W: fmt::Write>(&self, f: &mut fmt::Formatter<W>) -> fmt::Result {
-        let Report { what, number, user, side, price, shares, held, other } = *self;
-        let ending = Ending { held: held_figure(what, held), other: other_figure(what, other) };
-        let dealt = Dealt { side, price, shares, ending };
+        let Report {
+            what,
+            number,
+            user,
+            side,
+            price,
+            shares,
+            held,
+            other,
+        } = *self;
+        let ending = Ending {
+            held: held_figure(what, held),
+            other: other_figure(what, other),
+        };
+        let dealt = Dealt {
+            side,
+            price,
+            shares,
+            ending,
+        };
         write!(f, "{what} {number} {user} {dealt}")
     }
 }

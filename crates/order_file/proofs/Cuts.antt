@@ -29,14 +29,15 @@ cut-joined (b ∷ p) bs h =
 
 -- what the first place of a byte parts a list into
 pub parted : (b : ℕ) (bs : List ℕ) (i : ℕ) → ((k : ℕ) → k < i → getD bs k 0 ≡ b → ⊥) → i < length bs → getD bs i 0 ≡ b
-  → (bs ≡ take i bs ++ b ∷ drop (i + 1) bs) × Lacks b (take i bs)
+    → (bs ≡ take i bs ++ b ∷ drop (i + 1) bs) × Lacks b (take i bs)
 parted b bs i h l e =
-    let long : length (take i bs) ≡ i = length-take-le i bs (omega arith) in
-    ((sym (take-append-drop i bs) ∙ ap (λ (x : List ℕ). take i bs ++ x) (drop-more bs i 0 l ∙ ap (λ (x : ℕ). x ∷ drop (i + 1) bs) e)),
-     λ k m q. let m′ : k < i = omega arith in h k m′ (rw getD-take at q))
+    let long : length (take i bs) ≡ i = length-take-le i bs (omega arith) in (
+      (sym (take-append-drop i bs) ∙ ap (λ (x : List ℕ). take i bs ++ x) (drop-more bs i 0 l ∙ ap (λ (x : ℕ). x ∷ drop (i + 1) bs) e)),
+      λ k m q. let m′ : k < i = omega arith in h k m′ (rw getD-take at q),
+    )
 
 pub cut-at : (bs : List ℕ) (i : ℕ) → ((k : ℕ) → k < i → getD bs k 0 ≡ 32 → ⊥) → i < length bs → getD bs i 0 ≡ 32
-  → cut bs ≡ take i bs ∷ cut (drop (i + 1) bs)
+    → cut bs ≡ take i bs ∷ cut (drop (i + 1) bs)
 cut-at bs i h l e = let p = parted 32 bs i h l e in ap cut (p .0) ∙ cut-joined (take i bs) (drop (i + 1) bs) (p .1)
 
 more : (t : Bool) (b : ℕ) (ps : List (List ℕ)) → 0 < length (cond t ([] ∷ ps) (onto b ps))
@@ -63,7 +64,7 @@ apart b p n h (suc k) l e = h k (omega arith) e
 
 -- and what is cut is joined again
 joins : (t : Bool) (b : ℕ) (ps : List (List ℕ)) (bs : List ℕ) → eqb b 32 ≡ t → 0 < length ps → Plain ps → spaced ps ≡ bs
-  → Plain (cond t ([] ∷ ps) (onto b ps)) × (spaced (cond t ([] ∷ ps) (onto b ps)) ≡ b ∷ bs)
+    → Plain (cond t ([] ∷ ps) (onto b ps)) × (spaced (cond t ([] ∷ ps) (onto b ps)) ≡ b ∷ bs)
 joins t b [] bs q l h e = absurd (omega arith)
 joins true b (p ∷ ps) bs q l h e = (((λ k m z. omega arith), h), (let z : b ≡ 32 = eqb-true b 32 q in cc))
 joins false b (p ∷ []) bs q l h e = (((λ k. apart b p (eqb-false b 32 q) (h .0) k), h .1), ap (λ (x : List ℕ). b ∷ x) e)

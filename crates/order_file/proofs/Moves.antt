@@ -56,7 +56,7 @@ abbrev Answer : Type 0
 Answer = Result (Option Instruction) Fault
 
 pub wrong-names : (k : Condition) (bs : List ℕ) (n : ℕ) (i : Line) (l t : RefT (List ℕ)) (r : Answer) (f : Fault) (u : List ℕ) (m : ℕ)
-  → k ≡ BeforeNames → i ≡ Ended l t → Begins bs i → (l .now ≡ names → ⊥) × (f ≡ no-names) → ErrBy r (λ y. y ≡ f) → Moves k bs n r Stopped u m
+    → k ≡ BeforeNames → i ≡ Ended l t → Begins bs i → (l .now ≡ names → ⊥) × (f ≡ no-names) → ErrBy r (λ y. y ≡ f) → Moves k bs n r Stopped u m
 unfolding Moves
 wrong-names k bs n i l t r f u m a b h g e =
     let p = err-from-errBy r e in
@@ -64,7 +64,7 @@ wrong-names k bs n i l t r f u m a b h g e =
     rw (a, p .1) (refl, (λ v z. g .0 (one-way (l .now) names (t .now) v (free 10 (l .now) (q .1)) names-free (sym (q .0) ∙ z ∙ single names v) .0)), p .2 ∙ g .1)
 
 pub right-names : (k : Condition) (bs : List ℕ) (n : ℕ) (i : Line) (l t : RefT (List ℕ)) (to : Condition) (u : List ℕ) (m : ℕ)
-  → k ≡ BeforeNames → i ≡ Ended l t → Begins bs i → l .now ≡ names → to ≡ AmongValues → u ≡ t .now → m ≡ n + 1 → Moves k bs n (Ok None) to u m
+    → k ≡ BeforeNames → i ≡ Ended l t → Begins bs i → l .now ≡ names → to ≡ AmongValues → u ≡ t .now → m ≡ n + 1 → Moves k bs n (Ok None) to u m
 unfolding Moves
 right-names k bs n i l t to u m a b h e to-is u-is m-is =
     let q = subst (Begins bs) b h in
@@ -74,19 +74,19 @@ no-names-in : (bs u : List ℕ) → Free 10 bs → bs ≡ (names ++ 10 ∷ []) +
 no-names-in bs u h z = has-end names u (subst (Free 10) (z ∙ single names u) h)
 
 pub unended-names : (k : Condition) (bs : List ℕ) (n : ℕ) (i : Line) (r : Answer) (f : Fault) (to : Condition) (u : List ℕ) (m : ℕ)
-  → k ≡ BeforeNames → i ≡ Unended → Begins bs i → f ≡ no-names → r ≡ Err f → to ≡ Stopped → Moves k bs n r to u m
+    → k ≡ BeforeNames → i ≡ Unended → Begins bs i → f ≡ no-names → r ≡ Err f → to ≡ Stopped → Moves k bs n r to u m
 unfolding Moves
 unended-names k bs n i r f to u m a b h e r-is to-is =
     rw (a, r-is) (to-is, (λ v z. no-names-in bs v (free 10 bs (subst (Begins bs) b h .1)) z), e)
 
 pub absent-names : (k : Condition) (bs : List ℕ) (n : ℕ) (i : Line) (r : Answer) (f : Fault) (to : Condition) (u : List ℕ) (m : ℕ)
-  → k ≡ BeforeNames → i ≡ Absent → Begins bs i → f ≡ no-names → r ≡ Err f → to ≡ Stopped → Moves k bs n r to u m
+    → k ≡ BeforeNames → i ≡ Absent → Begins bs i → f ≡ no-names → r ≡ Err f → to ≡ Stopped → Moves k bs n r to u m
 unfolding Moves
 absent-names k bs n i r f to u m a b h e r-is to-is =
     rw (a, r-is) (to-is, (λ v z. no-names-in bs v (subst (Free 10) (sym (subst (Begins bs) b h)) tt) z), e)
 
 pub wrong-values : (k : Condition) (bs : List ℕ) (n : ℕ) (i : Line) (l t : RefT (List ℕ)) (r : Answer) (f : Fault) (u : List ℕ) (m : ℕ)
-  → k ≡ AmongValues → i ≡ Ended l t → Begins bs i → Faults (l .now) n (Err f) → ErrBy r (λ y. y ≡ f) → Moves k bs n r Stopped u m
+    → k ≡ AmongValues → i ≡ Ended l t → Begins bs i → Faults (l .now) n (Err f) → ErrBy r (λ y. y ≡ f) → Moves k bs n r Stopped u m
 unfolding Moves
 wrong-values k bs n i l t r f u m a b h g e =
     let p = err-from-errBy r e in
@@ -94,14 +94,14 @@ wrong-values k bs n i l t r f u m a b h g e =
     rw (a, p .1, p .2) (refl, omega (arith, shorter bs (l .now) (t .now) (q .0)), inr (l .now, t .now, q .0, q .1, g))
 
 pub right-values : (k : Condition) (bs : List ℕ) (n : ℕ) (i : Line) (l t : RefT (List ℕ)) (c : Instruction) (to : Condition) (u : List ℕ) (m : ℕ)
-  → k ≡ AmongValues → i ≡ Ended l t → Begins bs i → Fit c × (l .now ≡ written c) → to ≡ AmongValues → u ≡ t .now → m ≡ n + 1 → Moves k bs n (Ok (Some c)) to u m
+    → k ≡ AmongValues → i ≡ Ended l t → Begins bs i → Fit c × (l .now ≡ written c) → to ≡ AmongValues → u ≡ t .now → m ≡ n + 1 → Moves k bs n (Ok (Some c)) to u m
 unfolding Moves
 right-values k bs n i l t c to u m a b h g to-is u-is m-is =
     let q = subst (Begins bs) b h in
     rw a (to-is, g .0, q .0 ∙ ap (λ (x : List ℕ). x ++ 10 ∷ t .now) (g .1) ∙ ap (λ (x : List ℕ). written c ++ 10 ∷ x) (sym u-is), m-is)
 
 pub unended-values : (k : Condition) (bs : List ℕ) (n : ℕ) (i : Line) (r : Answer) (f : Fault) (to : Condition) (u : List ℕ) (m : ℕ)
-  → k ≡ AmongValues → i ≡ Unended → Begins bs i → f ≡ bad-line n → r ≡ Err f → to ≡ Stopped → Moves k bs n r to u m
+    → k ≡ AmongValues → i ≡ Unended → Begins bs i → f ≡ bad-line n → r ≡ Err f → to ≡ Stopped → Moves k bs n r to u m
 unfolding Moves
 unended-values k bs n i r f to u m a b h e r-is to-is = let q = subst (Begins bs) b h in rw (a, r-is) (to-is, q .0, inl (q .1, e))
 

@@ -43,7 +43,7 @@ front-le xs ys =
     let a : value 10 xs ≡ number 10 (map digitValue xs) = value-is 10 xs in
     let b : value 10 (xs ++ ys) ≡ number 10 (map digitValue (xs ++ ys)) = value-is 10 (xs ++ ys) in
     let d : number 10 (map digitValue (xs ++ ys)) ≡ numberAfter 10 (number 10 (map digitValue xs)) (map digitValue ys) =
-      ap (number 10) (map-append digitValue xs ys) ∙ numberAfter-append 10 0 (map digitValue xs) (map digitValue ys) in
+    ap (number 10) (map-append digitValue xs ys) ∙ numberAfter-append 10 0 (map digitValue xs) (map digitValue ys) in
     let g : number 10 (map digitValue xs) ≤ numberAfter 10 (number 10 (map digitValue xs)) (map digitValue ys) = numberAfter-ge 10 (number 10 (map digitValue xs)) (map digitValue ys) (omega arith) in
     omega arith
 
@@ -60,7 +60,7 @@ pub record Longer (bs : List ℕ) (i v : ℕ) : Type 0 where
   pub digits : Digits 10 (take (i + 1) bs)
 
 pub longer : (bs : List ℕ) (i v : ℕ) → i < length bs → v ≡ value 10 (take i bs) → Digits 10 (take i bs) → 48 ≤ getD bs i 0 → getD bs i 0 ≤ 57
-  → Longer bs i (v * 10 + (getD bs i 0 - 48))
+    → Longer bs i (v * 10 + (getD bs i 0 - 48))
 longer bs i v l e ds lo hi =
     let d : digitValue (getD bs i 0) + 48 ≡ getD bs i 0 = digitValue-digit (getD bs i 0) (lo, hi) in
     let m : value 10 (take (i + 1) bs) ≡ value 10 (take i bs) * 10 + digitValue (getD bs i 0) = value-more 10 bs i l in

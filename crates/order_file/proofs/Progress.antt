@@ -33,19 +33,20 @@ started bs k t n cs a e p q = rw a (e, p, q)
 
 -- a line that gives no instruction
 pub passed : (bs : List ℕ) (k : Condition) (t : List ℕ) (n : ℕ) (cs : List Instruction) (o : Option Instruction) (to : Condition) (u : List ℕ) (m : ℕ)
-  → Progress bs k t n cs → Moves k t n (Ok o) to u m → o ≡ None → Progress bs to u m cs × (length u ≤ length t)
+    → Progress bs k t n cs → Moves k t n (Ok o) to u m → o ≡ None → Progress bs to u m cs × (length u ≤ length t)
 unfolding Progress Moves
 passed bs k t n cs (Some c) to u m p v e = absurd (let z : _≡_ {A = ℕ} 0 1 = cc in omega arith)
-passed bs BeforeNames t n cs None to u m p v e =
-    ((rw (v .0) (rw (p .2) tt, sym (p .0) ∙ v .1 ∙ rw (p .2) (ap (λ (x : List ℕ). x ++ u) (sym (append-nil (names ++ 10 ∷ [])))), omega (arith, v .2, p .1, ap length (p .2)))),
-     omega (arith, ap length (v .1) ∙ length-append (names ++ 10 ∷ []) u))
+passed bs BeforeNames t n cs None to u m p v e = (
+  (rw (v .0) (rw (p .2) tt, sym (p .0) ∙ v .1 ∙ rw (p .2) (ap (λ (x : List ℕ). x ++ u) (sym (append-nil (names ++ 10 ∷ [])))), omega (arith, v .2, p .1, ap length (p .2)))),
+  omega (arith, ap length (v .1) ∙ length-append (names ++ 10 ∷ []) u),
+)
 passed bs AmongValues t n cs None to u m p v e =
     ((rw (v .0) (p .0, p .1 ∙ ap (λ (x : List ℕ). text-of cs ++ x) (v .1) ∙ append-nil (text-of cs))), omega (arith, ap length (v .2)))
 passed bs Stopped t n cs None to u m p v e = (rw (v .0) p, omega (arith, ap length (v .1)))
 
 -- a line that gives one
 pub added : (bs : List ℕ) (k : Condition) (t : List ℕ) (n : ℕ) (cs : List Instruction) (o : Option Instruction) (c : Instruction) (to : Condition) (u : List ℕ) (m : ℕ) (ds : List Instruction)
-  → Progress bs k t n cs → Moves k t n (Ok o) to u m → o ≡ Some c → ds ≡ cs ++ c ∷ [] → Progress bs to u m ds
+    → Progress bs k t n cs → Moves k t n (Ok o) to u m → o ≡ Some c → ds ≡ cs ++ c ∷ [] → Progress bs to u m ds
 unfolding Progress Moves
 added bs k t n cs None c to u m ds p v a e = absurd (let z : _≡_ {A = ℕ} 0 1 = cc in omega arith)
 added bs BeforeNames t n cs (Some d) c to u m ds p v a e = absurd v
@@ -57,7 +58,7 @@ added bs Stopped t n cs (Some d) c to u m ds p v a e = absurd v
 
 -- the bytes that such a line takes
 pub taken-off : (k : Condition) (t : List ℕ) (n : ℕ) (o : Option Instruction) (c : Instruction) (to : Condition) (u : List ℕ) (m : ℕ) → Moves k t n (Ok o) to u m → o ≡ Some c
-  → length u + field-count ≤ length t
+    → length u + field-count ≤ length t
 unfolding Moves
 taken-off k t n None c to u m v e = absurd (let z : _≡_ {A = ℕ} 0 1 = cc in omega arith)
 taken-off BeforeNames t n (Some d) c to u m v e = absurd v
@@ -69,7 +70,7 @@ abbrev pub steps-left : Condition → List ℕ → ℕ
 steps-left k t = length t + cond (stopped k) 0 1
 
 pub fewer : (k : Condition) (t : List ℕ) (n : ℕ) (o : Option Instruction) (to : Condition) (u : List ℕ) (m : ℕ) → stopped k ≡ false → Moves k t n (Ok o) to u m
-  → steps-left to u < steps-left k t
+    → steps-left to u < steps-left k t
 unfolding Moves
 fewer BeforeNames t n None to u m s v = rw (v .0) (omega (arith, ap length (v .1 ∙ single names u) ∙ length-append names (10 ∷ u)))
 fewer BeforeNames t n (Some c) to u m s v = absurd v
@@ -89,12 +90,13 @@ pub record Refused (bs : List ℕ) (f : Fault) : Type 0 where
   pub fault : Bad-file bs f
 
 pub refused : (bs : List ℕ) (k : Condition) (t : List ℕ) (n : ℕ) (cs : List Instruction) (f : Fault) (to : Condition) (u : List ℕ) (m : ℕ)
-  → length bs ≤ most-bytes → Progress bs k t n cs → Moves k t n (Err f) to u m → Refused bs f
+    → length bs ≤ most-bytes → Progress bs k t n cs → Moves k t n (Err f) to u m → Refused bs f
 unfolding Progress Moves
 refused bs BeforeNames t n cs f to u m l p v =
     record { accepted = λ ds s h e. v .1 (lines-of ds) (p .0 ∙ e); fault = inr (inl (l, (λ w e. v .1 w (p .0 ∙ e)), v .2)) }
 refused bs AmongValues t n cs f to u m l p v =
     record {
       accepted = λ ds s h e. not-text bs t n f cs (p .0) (p .1) (v .1) (v .2) ds h e;
-      fault = inr (inr (l, (cs, t, p .0, p .1, v .1, rw (← p .2) (v .2)))) }
+      fault = inr (inr (l, (cs, t, p .0, p .1, v .1, rw (← p .2) (v .2))));
+    }
 refused bs Stopped t n cs f to u m l p v = absurd v

@@ -114,7 +114,8 @@ off (w ∷ ws) n k (p ∷ ps) f here (inl a) =
       fills = (some w .0, filled ws .0, refl, some w .1, filled ws .1);
       so-far = refl;
       no-further = λ gs h e. a .0 (subst (Good w) (head-same (shown (h .0)) (text p) [] [] (sym (ap (λ (x : List Cell). take 1 (map shown x)) (h .2)) ∙ e)) (met w (h .0) (h .3)));
-      blamed = rw (blames w (some w .0) (some w .1)) (moved (Blamed (cause-of w)) (text p) n k (k + 0) f (omega arith) (subst (λ (x : Place). Blamed (cause-of w) (text p) x f) (here .0) (a .1))) }
+      blamed = rw (blames w (some w .0) (some w .1)) (moved (Blamed (cause-of w)) (text p) n k (k + 0) f (omega arith) (subst (λ (x : Place). Blamed (cause-of w) (text p) x f) (here .0) (a .1)));
+    }
 off (w ∷ ws) n k (p ∷ ps) f here (inr a) =
     let o = off ws n (k + 1) ps f (here .1) (a .1) in
     let m = meet w (text p) (a .0) in
@@ -124,35 +125,212 @@ off (w ∷ ws) n k (p ∷ ps) f here (inr a) =
       fills = (m .0, o .like, refl, m .1, o .fills);
       so-far = rw (m .2, o .so-far) refl;
       no-further = λ gs h e. o .no-further (h .1) (h .4)
-        (tail-same (shown (h .0)) (text p) _ _ (sym (ap (λ (x : List Cell). take (suc (suc (o .before))) (map shown x)) (h .2)) ∙ e));
-      blamed = moved (Blamed (blame (getD (o .like) (o .before) blank))) (getD (map text ps) (o .before) []) n ((k + 1) + o .before) (k + suc (o .before)) f (omega arith) (o .blamed) }
+          (tail-same (shown (h .0)) (text p) _ _ (sym (ap (λ (x : List Cell). take (suc (suc (o .before))) (map shown x)) (h .2)) ∙ e));
+      blamed = moved (Blamed (blame (getD (o .like) (o .before) blank))) (getD (map text ps) (o .before) []) n ((k + 1) + o .before) (k + suc (o .before)) f (omega arith) (o .blamed);
+    }
 
 -- each instruction has what its word wants
 pub fills : (c : Instruction) → Fit c → Fills (wants (verb-of c)) (values-of c)
-fills (Enter s t) h =
-    (_, _, refl, (s, refl), (_, _, refl, (_, h .0, refl), (_, _, refl, (_, h .1 .0, refl), (_, _, refl, (_, h .1 .1 .0, refl),
-    (_, _, refl, (t .kind, refl), (_, _, refl, (_, h .1 .1 .1 .0, refl), (_, _, refl, refl, (_, _, refl, refl, refl))))))))
-fills (Replace t n) h =
-    (_, _, refl, refl, (_, _, refl, (_, h .0, refl), (_, _, refl, (_, h .1 .0, refl), (_, _, refl, (_, h .1 .1 .0, refl),
-    (_, _, refl, (t .kind, refl), (_, _, refl, (_, h .1 .1 .1 .0, refl), (_, _, refl, (_, h .1 .1 .1 .1 .0, refl), (_, _, refl, refl, refl))))))))
-fills (Cut z u n) h =
-    (_, _, refl, refl, (_, _, refl, refl, (_, _, refl, (_, h .0, refl), (_, _, refl, refl,
-    (_, _, refl, refl, (_, _, refl, (_, h .1 .0, refl), (_, _, refl, (_, h .1 .1 .0, refl), (_, _, refl, refl, refl))))))))
-fills (Cancel u n) h =
-    (_, _, refl, refl, (_, _, refl, refl, (_, _, refl, refl, (_, _, refl, refl,
-    (_, _, refl, refl, (_, _, refl, (_, h .0, refl), (_, _, refl, (_, h .1 .0, refl), (_, _, refl, refl, refl))))))))
-fills (Reply z n) h =
-    (_, _, refl, refl, (_, _, refl, refl, (_, _, refl, (_, h .0, refl), (_, _, refl, refl,
-    (_, _, refl, refl, (_, _, refl, refl, (_, _, refl, (_, h .1 .0, refl), (_, _, refl, refl, refl))))))))
-fills (Quote s q) h =
-    (_, _, refl, (s, refl), (_, _, refl, (_, h .0, refl), (_, _, refl, (_, h .1 .0, refl), (_, _, refl, refl,
-    (_, _, refl, refl, (_, _, refl, refl, (_, _, refl, refl, (_, _, refl, (_, h .1 .1 .0, refl), refl))))))))
-fills Close h =
-    (_, _, refl, refl, (_, _, refl, refl, (_, _, refl, refl, (_, _, refl, refl,
-    (_, _, refl, refl, (_, _, refl, refl, (_, _, refl, refl, (_, _, refl, refl, refl))))))))
-fills Expire h =
-    (_, _, refl, refl, (_, _, refl, refl, (_, _, refl, refl, (_, _, refl, refl,
-    (_, _, refl, refl, (_, _, refl, refl, (_, _, refl, refl, (_, _, refl, refl, refl))))))))
+fills (Enter s t) h = (
+  _,
+  _,
+  refl,
+  (s, refl),
+  (
+    _,
+    _,
+    refl,
+    (_, h .0, refl),
+    (
+      _,
+      _,
+      refl,
+      (_, h .1 .0, refl),
+      (
+        _,
+        _,
+        refl,
+        (_, h .1 .1 .0, refl),
+        (_, _, refl, (t .kind, refl), (_, _, refl, (_, h .1 .1 .1 .0, refl), (_, _, refl, refl, (_, _, refl, refl, refl)))),
+      ),
+    ),
+  ),
+)
+fills (Replace t n) h = (
+  _,
+  _,
+  refl,
+  refl,
+  (
+    _,
+    _,
+    refl,
+    (_, h .0, refl),
+    (
+      _,
+      _,
+      refl,
+      (_, h .1 .0, refl),
+      (
+        _,
+        _,
+        refl,
+        (_, h .1 .1 .0, refl),
+        (_, _, refl, (t .kind, refl), (_, _, refl, (_, h .1 .1 .1 .0, refl), (_, _, refl, (_, h .1 .1 .1 .1 .0, refl), (_, _, refl, refl, refl)))),
+      ),
+    ),
+  ),
+)
+fills (Cut z u n) h = (
+  _,
+  _,
+  refl,
+  refl,
+  (
+    _,
+    _,
+    refl,
+    refl,
+    (
+      _,
+      _,
+      refl,
+      (_, h .0, refl),
+      (
+        _,
+        _,
+        refl,
+        refl,
+        (_, _, refl, refl, (_, _, refl, (_, h .1 .0, refl), (_, _, refl, (_, h .1 .1 .0, refl), (_, _, refl, refl, refl)))),
+      ),
+    ),
+  ),
+)
+fills (Cancel u n) h = (
+  _,
+  _,
+  refl,
+  refl,
+  (
+    _,
+    _,
+    refl,
+    refl,
+    (
+      _,
+      _,
+      refl,
+      refl,
+      (
+        _,
+        _,
+        refl,
+        refl,
+        (_, _, refl, refl, (_, _, refl, (_, h .0, refl), (_, _, refl, (_, h .1 .0, refl), (_, _, refl, refl, refl)))),
+      ),
+    ),
+  ),
+)
+fills (Reply z n) h = (
+  _,
+  _,
+  refl,
+  refl,
+  (
+    _,
+    _,
+    refl,
+    refl,
+    (
+      _,
+      _,
+      refl,
+      (_, h .0, refl),
+      (
+        _,
+        _,
+        refl,
+        refl,
+        (_, _, refl, refl, (_, _, refl, refl, (_, _, refl, (_, h .1 .0, refl), (_, _, refl, refl, refl)))),
+      ),
+    ),
+  ),
+)
+fills (Quote s q) h = (
+  _,
+  _,
+  refl,
+  (s, refl),
+  (
+    _,
+    _,
+    refl,
+    (_, h .0, refl),
+    (
+      _,
+      _,
+      refl,
+      (_, h .1 .0, refl),
+      (
+        _,
+        _,
+        refl,
+        refl,
+        (_, _, refl, refl, (_, _, refl, refl, (_, _, refl, refl, (_, _, refl, (_, h .1 .1 .0, refl), refl)))),
+      ),
+    ),
+  ),
+)
+fills Close h = (
+  _,
+  _,
+  refl,
+  refl,
+  (
+    _,
+    _,
+    refl,
+    refl,
+    (
+      _,
+      _,
+      refl,
+      refl,
+      (
+        _,
+        _,
+        refl,
+        refl,
+        (_, _, refl, refl, (_, _, refl, refl, (_, _, refl, refl, (_, _, refl, refl, refl)))),
+      ),
+    ),
+  ),
+)
+fills Expire h = (
+  _,
+  _,
+  refl,
+  refl,
+  (
+    _,
+    _,
+    refl,
+    refl,
+    (
+      _,
+      _,
+      refl,
+      refl,
+      (
+        _,
+        _,
+        refl,
+        refl,
+        (_, _, refl, refl, (_, _, refl, refl, (_, _, refl, refl, (_, _, refl, refl, refl)))),
+      ),
+    ),
+  ),
+)
 
 -- the cells that fill a line's wants, one by one
 record Spread (w₂ w₃ w₄ w₅ w₆ w₇ w₈ w₉ : Want) (fs : List Cell) : Type 0 where
@@ -178,9 +356,24 @@ spread : (w₂ w₃ w₄ w₅ w₆ w₇ w₈ w₉ : Want) (fs : List Cell) → F
 spread w₂ w₃ w₄ w₅ w₆ w₇ w₈ w₉ fs a₂ =
     let a₃ = a₂ .4 in let a₄ = a₃ .4 in let a₅ = a₄ .4 in let a₆ = a₅ .4 in let a₇ = a₆ .4 in let a₈ = a₇ .4 in let a₉ = a₈ .4 in
     record {
-      f₂ = a₂ .0; f₃ = a₃ .0; f₄ = a₄ .0; f₅ = a₅ .0; f₆ = a₆ .0; f₇ = a₇ .0; f₈ = a₈ .0; f₉ = a₉ .0;
-      m₂ = a₂ .3; m₃ = a₃ .3; m₄ = a₄ .3; m₅ = a₅ .3; m₆ = a₆ .3; m₇ = a₇ .3; m₈ = a₈ .3; m₉ = a₉ .3;
-      all = cc }
+      f₂ = a₂ .0;
+      f₃ = a₃ .0;
+      f₄ = a₄ .0;
+      f₅ = a₅ .0;
+      f₆ = a₆ .0;
+      f₇ = a₇ .0;
+      f₈ = a₈ .0;
+      f₉ = a₉ .0;
+      m₂ = a₂ .3;
+      m₃ = a₃ .3;
+      m₄ = a₄ .3;
+      m₅ = a₅ .3;
+      m₆ = a₆ .3;
+      m₇ = a₇ .3;
+      m₈ = a₈ .3;
+      m₉ = a₉ .3;
+      all = cc;
+    }
 
 -- and whatever a word wants is some instruction's
 record Made (v : Verb) (fs : List Cell) : Type 0 where
@@ -191,12 +384,18 @@ record Made (v : Verb) (fs : List Cell) : Type 0 where
 made : (v : Verb) (fs : List Cell) → Fills (wants v) fs → Made v fs
 made Enter′ fs a =
     let s = spread a-side a-number a-number a-number a-kind a-number a-blank a-blank fs a in
-    record { of = Enter (s .m₂ .0) (record { price = s .m₃ .0; size = s .m₄ .0; show = s .m₅ .0; kind = s .m₆ .0; user = s .m₇ .0 });
-      fit = (s .m₃ .1, (s .m₄ .1, (s .m₅ .1, (s .m₇ .1, tt)))); is = cc }
+    record {
+      of = Enter (s .m₂ .0) (record { price = s .m₃ .0; size = s .m₄ .0; show = s .m₅ .0; kind = s .m₆ .0; user = s .m₇ .0 });
+      fit = (s .m₃ .1, (s .m₄ .1, (s .m₅ .1, (s .m₇ .1, tt))));
+      is = cc;
+    }
 made Replace′ fs a =
     let s = spread a-blank a-number a-number a-number a-kind a-number a-number a-blank fs a in
-    record { of = Replace (record { price = s .m₃ .0; size = s .m₄ .0; show = s .m₅ .0; kind = s .m₆ .0; user = s .m₇ .0 }) (s .m₈ .0);
-      fit = (s .m₃ .1, (s .m₄ .1, (s .m₅ .1, (s .m₇ .1, (s .m₈ .1, tt))))); is = cc }
+    record {
+      of = Replace (record { price = s .m₃ .0; size = s .m₄ .0; show = s .m₅ .0; kind = s .m₆ .0; user = s .m₇ .0 }) (s .m₈ .0);
+      fit = (s .m₃ .1, (s .m₄ .1, (s .m₅ .1, (s .m₇ .1, (s .m₈ .1, tt)))));
+      is = cc;
+    }
 made Cut′ fs a =
     let s = spread a-blank a-blank a-number a-blank a-blank a-number a-number a-blank fs a in
     record { of = Cut (s .m₄ .0) (s .m₇ .0) (s .m₈ .0); fit = (s .m₄ .1, (s .m₇ .1, (s .m₈ .1, tt))); is = cc }
@@ -245,10 +444,11 @@ astray v n ps f o =
       fit = m .fit;
       so-far = ap (take (suc (o .before))) t ∙ ap (λ (x : List (List ℕ)). verb-word v ∷ x) (o .so-far);
       no-further = λ c h e.
-        let e′ : verb-word (verb-of c) ∷ take (suc (o .before)) (map shown (values-of c)) ≡ verb-word v ∷ take (suc (o .before)) ps = rw add-one at e in
-        let q : verb-of c ≡ v = same-verb (verb-of c) v (head-same _ _ _ _ e′) in
-        o .no-further (values-of c) (subst (λ (x : Verb). Fills (wants x) (values-of c)) q (fills c h)) (tail-same _ _ _ _ e′);
-      blamed = rw (m .is) (moved (Blamed (blame (getD (o .like) (o .before) blank))) (getD ps (o .before) []) n (2 + o .before) (suc (o .before) + 1) f (omega arith) (o .blamed)) }
+          let e′ : verb-word (verb-of c) ∷ take (suc (o .before)) (map shown (values-of c)) ≡ verb-word v ∷ take (suc (o .before)) ps = rw add-one at e in
+          let q : verb-of c ≡ v = same-verb (verb-of c) v (head-same _ _ _ _ e′) in
+          o .no-further (values-of c) (subst (λ (x : Verb). Fills (wants x) (values-of c)) q (fills c h)) (tail-same _ _ _ _ e′);
+      blamed = rw (m .is) (moved (Blamed (blame (getD (o .like) (o .before) blank))) (getD ps (o .before) []) n (2 + o .before) (suc (o .before) + 1) f (omega arith) (o .blamed));
+    }
 
 -- no field of an instruction has a space or a line end
 pub meets-free : (b : ℕ) → (b ≡ 32) ⊎ (b ≡ 10) → (w : Want) (f : Cell) → Meets w f → Free b (shown f)
@@ -291,18 +491,19 @@ astray-done : (bs : List ℕ) (n : ℕ) (ps : List (List ℕ)) (f : Fault) → c
 astray-done bs n ps f e l a =
     record {
       accepts = λ c h q. a .no-further c h (ap (take (a .before + 1)) (sym (cut-line bs c h q) ∙ e));
-      fault = inr (ps, l, subst Plain e (spaced-cut bs .0), sym (spaced-cut bs .1) ∙ ap spaced e, a) }
+      fault = inr (ps, l, subst Plain e (spaced-cut bs .0), sym (spaced-cut bs .1) ∙ ap spaced e, a);
+    }
 
 -- the reader of a line, by its ways out
 pub by-word : (v : Verb) (bs : List ℕ) (n : ℕ) (p : Part) (ps : List Part) (r : Result Instruction Fault) → cut bs ≡ text p ∷ map text ps → length (map text ps) + 1 ≡ field-count
-  → Placed n 2 ps → Writes a-verb v (text p) → Taken v ps r → Done bs n r
+    → Placed n 2 ps → Writes a-verb v (text p) → Taken v ps r → Done bs n r
 by-word v bs n p ps (Ok c) e l at q k =
     record { accepts = (k .0, sym (spaced-cut bs .1) ∙ ap spaced (e ∙ ap (λ (x : List ℕ). x ∷ map text ps) q ∙ sym (k .1))); fault = tt }
 by-word v bs n p ps (Err f) e l at q k =
     astray-done bs n (verb-word v ∷ map text ps) f (e ∙ ap (λ (x : List ℕ). x ∷ map text ps) q) (omega arith) (astray v n (map text ps) f (off (wants v) n 2 ps f at k))
 
 pub no-verb : (bs : List ℕ) (n : ℕ) (p : Part) (ps : List Part) (f : Fault) → cut bs ≡ text p ∷ map text ps → length (map text ps) + 1 ≡ field-count
-  → (p .place ≡ at n 1) → (Good a-verb (text p) → ⊥) → Blamed WrongWord (text p) (p .place) f → Done bs n (Err f)
+    → (p .place ≡ at n 1) → (Good a-verb (text p) → ⊥) → Blamed WrongWord (text p) (p .place) f → Done bs n (Err f)
 no-verb bs n p ps f e l here bad b =
     astray-done bs n (text p ∷ map text ps) f e (omega arith)
     (record {
@@ -311,10 +512,12 @@ no-verb bs n p ps f e l here bad b =
       fit = tt;
       so-far = refl;
       no-further = λ c h q. bad (good a-verb (verb-of c) (text p) (sym (head-same (verb-word (verb-of c)) (text p) [] [] q)));
-      blamed = subst (λ (x : Place). Blamed WrongWord (text p) x f) here b })
+      blamed = subst (λ (x : Place). Blamed WrongWord (text p) x f) here b;
+    })
 
 pub not-all : (bs : List ℕ) (n : ℕ) (f : Fault) → (length (cut bs) ≡ field-count → ⊥) → f ≡ bad-line n → Done bs n (Err f)
 not-all bs n f bad e =
     record {
       accepts = λ c h q. bad (ap length (cut-line bs c h q) ∙ plain c h .1);
-      fault = inl ((λ ps l h q. bad (ap length (ap cut q ∙ cut-spaced ps (omega arith) h) ∙ l)), e) }
+      fault = inl ((λ ps l h q. bad (ap length (ap cut q ∙ cut-spaced ps (omega arith) h) ∙ l)), e);
+    }

@@ -27,7 +27,7 @@ spaced-free : (p : List ℕ) (ws : List Want) (fs : List Cell) → Free 10 p →
 spaced-free p [] fs h g = rw g h
 spaced-free p (w ∷ ws) fs h g =
     rw (g .2) (free-append p (32 ∷ spaced-after (shown (g .0)) (map shown (g .1))) h
-      ((λ e. omega arith), spaced-free (shown (g .0)) ws (g .1) (meets-free 10 (inr refl) w (g .0) (g .3)) (g .4)))
+    ((λ e. omega arith), spaced-free (shown (g .0)) ws (g .1) (meets-free 10 (inr refl) w (g .0) (g .3)) (g .4)))
 
 -- no instruction's line has a line end in it
 pub line-free : (c : Instruction) → Fit c → Free 10 (written c)
@@ -79,7 +79,7 @@ not-first t n f (inr a) c u h e =
 
 -- and a file with such a line after some instructions' writes no instructions
 pub not-text : (bs t : List ℕ) (n : ℕ) (f : Fault) (ds : List Instruction) → Fits ds → bs ≡ text-of ds ++ t → 0 < length t → Bad-line t n f
-  → (cs : List Instruction) → Fits cs → bs ≡ text-of cs → ⊥
+    → (cs : List Instruction) → Fits cs → bs ≡ text-of cs → ⊥
 not-text bs t n f ds g e l bad cs h q =
     let e′ : lines-of ds ++ t ≡ lines-of cs = append-cancel-left (names ++ 10 ∷ []) _ _ (sym (append-assoc (names ++ 10 ∷ []) (lines-of ds) t) ∙ sym e ∙ q) in
     let r = left ds cs t g h e′ in

@@ -61,7 +61,7 @@ stopped Stopped = true
 abbrev pub Bad-line : List ℕ → ℕ → Fault → Type 0
 Bad-line bs n f =
     (Lacks 10 bs × (f ≡ bad-line n))
-  ⊎ ((l : List ℕ) × (t : List ℕ) × (bs ≡ l ++ 10 ∷ t) × Lacks 10 l × Faults l n (Err f))
+    ⊎ ((l : List ℕ) × (t : List ℕ) × (bs ≡ l ++ 10 ∷ t) × Lacks 10 l × Faults l n (Err f))
 
 -- THE READER'S MOVES: one line of the bytes bs, as line n, leads to another condition, to the bytes t that are left, and to line m
 unfoldable pub Moves : Condition → List ℕ → ℕ → Result (Option Instruction) Fault → Condition → List ℕ → ℕ → Type 0
@@ -79,8 +79,8 @@ Moves Stopped bs n (Err f) to t m = ⊥
 abbrev pub Bad-file : List ℕ → Fault → Type 0
 Bad-file bs f =
     ((most-bytes < length bs) × (f ≡ too-long))
-  ⊎ ((length bs ≤ most-bytes) × ((t : List ℕ) → bs ≡ (names ++ 10 ∷ []) ++ t → ⊥) × (f ≡ no-names))
-  ⊎ ((length bs ≤ most-bytes) × ((cs : List Instruction) × (t : List ℕ) × Fits cs × (bs ≡ text-of cs ++ t) × (0 < length t) × Bad-line t (length cs + 2) f))
+    ⊎ ((length bs ≤ most-bytes) × ((t : List ℕ) → bs ≡ (names ++ 10 ∷ []) ++ t → ⊥) × (f ≡ no-names))
+    ⊎ ((length bs ≤ most-bytes) × ((cs : List Instruction) × (t : List ℕ) × Fits cs × (bs ≡ text-of cs ++ t) × (0 < length t) × Bad-line t (length cs + 2) f))
 
 -- accepted with the instructions cs exactly where the file is what cs are written as, and short enough
 abbrev pub File-accepted : List ℕ → Result (Vec Instruction Global) ReadError → Type 0

@@ -144,4 +144,4 @@ abbrev pub Faults : List ℕ → ℕ → Result Instruction Fault → Type 0
 Faults bs n (Ok c) = Unit {0}
 Faults bs n (Err f) =
     (((ps : List (List ℕ)) → length ps ≡ field-count → Plain ps → bs ≡ spaced ps → ⊥) × (f ≡ bad-line n))
-  ⊎ ((ps : List (List ℕ)) × (length ps ≡ field-count) × Plain ps × (bs ≡ spaced ps) × Astray n ps f)
+    ⊎ ((ps : List (List ℕ)) × (length ps ≡ field-count) × Plain ps × (bs ≡ spaced ps) × Astray n ps f)

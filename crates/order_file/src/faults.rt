@@ -68,25 +68,45 @@ impl Fault {
     pub(crate) fn of_field(cause: Cause, place: Place) -> Fault
         ensures { λ r. ⌜ r ≡ bad-field cause place ⌝ }
     {
-        Fault { cause, line: place.line, field: place.field, layer: Layer::Field }
+        Fault {
+            cause,
+            line: place.line,
+            field: place.field,
+            layer: Layer::Field,
+        }
     }
 
     pub(crate) fn of_line(line: u32) -> Fault
         ensures { λ r. ⌜ r ≡ bad-line line ⌝ }
     {
-        Fault { cause: Cause::BadLine, line, field: 0, layer: Layer::Line }
+        Fault {
+            cause: Cause::BadLine,
+            line,
+            field: 0,
+            layer: Layer::Line,
+        }
     }
 
     pub(crate) fn of_names() -> Fault
         ensures { λ r. ⌜ r ≡ no-names ⌝ }
     {
-        Fault { cause: Cause::NoNames, line: 1, field: 0, layer: Layer::File }
+        Fault {
+            cause: Cause::NoNames,
+            line: 1,
+            field: 0,
+            layer: Layer::File,
+        }
     }
 
     pub(crate) fn of_length() -> Fault
         ensures { λ r. ⌜ r ≡ too-long ⌝ }
     {
-        Fault { cause: Cause::TooLong, line: 0, field: 0, layer: Layer::File }
+        Fault {
+            cause: Cause::TooLong,
+            line: 0,
+            field: 0,
+            layer: Layer::File,
+        }
     }
 }
 
@@ -133,7 +153,12 @@ pub impl fmt::Display for Fault as FaultDisplay {
     ghost shown = { λ f. Some (fault-text f) };
 
     fn fmt<W: fmt::Write>(&self, f: &mut fmt::Formatter<W>) -> fmt::Result {
-        let Fault { cause, line, field, layer } = *self;
+        let Fault {
+            cause,
+            line,
+            field,
+            layer,
+        } = *self;
         write!(f, "cause line field layer\n{cause} {line} {field} {layer}")
     }
 }

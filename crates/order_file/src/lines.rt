@@ -49,27 +49,70 @@ fn head(bytes: &[u8]) -> Option<(&[u8], &[u8])>
 fn cut_row(bytes: &[u8], line: u32) -> Result<Row<'_>, Fault>
     ensures { λ r. ⌜ Rows (now (bytes .entry)) line r ⌝ }
 {
-    let Some((call, rest)) = head(bytes) else { return Err(Fault::of_line(line)) };
-    let Some((side, rest)) = head(rest) else { return Err(Fault::of_line(line)) };
-    let Some((price, rest)) = head(rest) else { return Err(Fault::of_line(line)) };
-    let Some((size, rest)) = head(rest) else { return Err(Fault::of_line(line)) };
-    let Some((show, rest)) = head(rest) else { return Err(Fault::of_line(line)) };
-    let Some((kind, rest)) = head(rest) else { return Err(Fault::of_line(line)) };
-    let Some((user, rest)) = head(rest) else { return Err(Fault::of_line(line)) };
-    let Some((number, venue)) = head(rest) else { return Err(Fault::of_line(line)) };
+    let Some((call, rest)) = head(bytes) else {
+        return Err(Fault::of_line(line))
+    };
+    let Some((side, rest)) = head(rest) else {
+        return Err(Fault::of_line(line))
+    };
+    let Some((price, rest)) = head(rest) else {
+        return Err(Fault::of_line(line))
+    };
+    let Some((size, rest)) = head(rest) else {
+        return Err(Fault::of_line(line))
+    };
+    let Some((show, rest)) = head(rest) else {
+        return Err(Fault::of_line(line))
+    };
+    let Some((kind, rest)) = head(rest) else {
+        return Err(Fault::of_line(line))
+    };
+    let Some((user, rest)) = head(rest) else {
+        return Err(Fault::of_line(line))
+    };
+    let Some((number, venue)) = head(rest) else {
+        return Err(Fault::of_line(line))
+    };
     if let Some(_) = head(venue) {
         return Err(Fault::of_line(line));
     }
     Ok(Row {
-        call: Part { bytes: call, place: Place { line, field: 1 } },
-        side: Part { bytes: side, place: Place { line, field: 2 } },
-        price: Part { bytes: price, place: Place { line, field: 3 } },
-        size: Part { bytes: size, place: Place { line, field: 4 } },
-        show: Part { bytes: show, place: Place { line, field: 5 } },
-        kind: Part { bytes: kind, place: Place { line, field: 6 } },
-        user: Part { bytes: user, place: Place { line, field: 7 } },
-        number: Part { bytes: number, place: Place { line, field: 8 } },
-        venue: Part { bytes: venue, place: Place { line, field: 9 } },
+        call: Part {
+            bytes: call,
+            place: Place { line, field: 1 },
+        },
+        side: Part {
+            bytes: side,
+            place: Place { line, field: 2 },
+        },
+        price: Part {
+            bytes: price,
+            place: Place { line, field: 3 },
+        },
+        size: Part {
+            bytes: size,
+            place: Place { line, field: 4 },
+        },
+        show: Part {
+            bytes: show,
+            place: Place { line, field: 5 },
+        },
+        kind: Part {
+            bytes: kind,
+            place: Place { line, field: 6 },
+        },
+        user: Part {
+            bytes: user,
+            place: Place { line, field: 7 },
+        },
+        number: Part {
+            bytes: number,
+            place: Place { line, field: 8 },
+        },
+        venue: Part {
+            bytes: venue,
+            place: Place { line, field: 9 },
+        },
     })
 }
 
@@ -82,7 +125,13 @@ fn terms(row: &Row<'_>) -> Result<Terms, Fault>
     let show = row.show.number()?;
     let kind = row.kind.kind()?;
     let user = row.user.number()?;
-    Ok(Terms { price, size, show, kind, user })
+    Ok(Terms {
+        price,
+        size,
+        show,
+        kind,
+        user,
+    })
 }
 
 fn enter(row: &Row<'_>) -> Result<Instruction, Fault>

@@ -71,13 +71,21 @@ fn next_line(bytes: &[u8]) -> Line<'_>
 fn check_length(file: &[u8]) -> Result<(), Fault>
     ensures { λ r. ⌜ Cases r (λ _. length (now (file .entry)) ≤ most-bytes) (λ f. (most-bytes < length (now (file .entry))) × (f ≡ too-long)) ⌝ }
 {
-    if file.len() > MOST_BYTES { Err(Fault::of_length()) } else { Ok(()) }
+    if file.len() > MOST_BYTES {
+        Err(Fault::of_length())
+    } else {
+        Ok(())
+    }
 }
 
 fn check_names(line: &[u8]) -> Result<(), Fault>
     ensures { λ r. ⌜ Cases r (λ _. now (line .entry) ≡ names) (λ f. (now (line .entry) ≡ names → ⊥) × (f ≡ no-names)) ⌝ }
 {
-    if spells(line, "call side price size show kind user number venue") { Ok(()) } else { Err(Fault::of_names()) }
+    if spells(line, "call side price size show kind user number venue") {
+        Ok(())
+    } else {
+        Err(Fault::of_names())
+    }
 }
 
 impl<'a> Reader<'a> {
@@ -85,7 +93,11 @@ impl<'a> Reader<'a> {
         requires { ⌜ length (now file) ≤ most-bytes ⌝ }
         ensures { λ r. ⌜ (now (r .rest) ≡ now (file .entry)) × (r .line ≡ 1) × (r .condition ≡ before-names) ⌝ }
     {
-        Reader { rest: file, line: 1, condition: Condition::BeforeNames }
+        Reader {
+            rest: file,
+            line: 1,
+            condition: Condition::BeforeNames,
+        }
     }
 
     fn is_stopped(&self) -> bool

@@ -50,7 +50,12 @@ impl fmt::Display for ReplaceEnd as ReplaceEndDisplay {
     ghost shown = { λ e. Some (decimal (e .show) ++ 32 ∷ (kind-word (e .kind) ++ 32 ∷ (decimal (e .user) ++ 32 ∷ (decimal (e .number) ++ codes " -")))) };
 
     fn fmt<W: fmt::Write>(&self, f: &mut fmt::Formatter<W>) -> fmt::Result {
-        let ReplaceEnd { show, kind, user, number } = *self;
+        let ReplaceEnd {
+            show,
+            kind,
+            user,
+            number,
+        } = *self;
         write!(f, "{show} {kind} {user} {number} -")
     }
 }
@@ -62,16 +67,36 @@ pub impl fmt::Display for Instruction as InstructionDisplay {
     fn fmt<W: fmt::Write>(&self, f: &mut fmt::Formatter<W>) -> fmt::Result {
         match *self {
             Instruction::Enter(side, terms) => {
-                let Terms { price, size, show, kind, user } = terms;
+                let Terms {
+                    price,
+                    size,
+                    show,
+                    kind,
+                    user,
+                } = terms;
                 let end = EnterEnd { show, kind, user };
                 write!(f, "enter {side} {price} {size} {end}")
             }
             Instruction::Replace(terms, number) => {
-                let Terms { price, size, show, kind, user } = terms;
-                let end = ReplaceEnd { show, kind, user, number };
+                let Terms {
+                    price,
+                    size,
+                    show,
+                    kind,
+                    user,
+                } = terms;
+                let end = ReplaceEnd {
+                    show,
+                    kind,
+                    user,
+                    number,
+                };
                 write!(f, "replace - {price} {size} {end}")
             }
-            Instruction::Cut { size, user, number } => write!(f, "cut - - {size} - - {user} {number} -"),
+            Instruction::Cut { size, user, number } => write!(
+                f,
+                "cut - - {size} - - {user} {number} -"
+            ),
             Instruction::Cancel { user, number } => write!(f, "cancel - - - - - {user} {number} -"),
             Instruction::Reply { size, number } => write!(f, "reply - - {size} - - - {number} -"),
             Instruction::Quote(side, quotation) => {

@@ -58,7 +58,6 @@ pub record Stepped (s s′ : State) (q q′ : Quotes) (o : Order) (rep : Report)
 own-work : (a b : ℕ) (s : State) (q : Quotes) (o : Order) → a ≡ b → fits (o .number) s ≡ true → own-call (eqb a b) q Work s (in-hand o) ≡ stepped (step s q o)
 own-work a b s q o e f = cond-true (eqb a b) _ _ (eq-eqb a b e) ∙ cond-true (fits (o .number) s) _ _ f
 
-
 pub work-steps : (a b : ℕ) (s s′ : State) (q q′ : Quotes) (o : Order) (rep : Report) (p′ : Pass) → a ≡ b → fits (o .number) s ≡ true → answer (rep ∷ []) s′ q′ p′ ≡ own-call (eqb a b) q Work s (in-hand o) → Stepped s s′ q q′ o rep p′
 work-steps a b s s′ q q′ o rep p′ e f h =
     let g : answer (rep ∷ []) s′ q′ p′ ≡ stepped (step s q o) = h ∙ own-work a b s q o e f in
@@ -78,13 +77,13 @@ work-accepted a b s s′ q q′ o why p′ e f h =
 pub finished-done : (s₀ s s′ : State) (q₀ q q′ : Quotes) (p₀ : Pass) (r₀ r r′ : Record) (o : Order) (rep : Report) → Onward s₀ q₀ p₀ r₀ s q (in-hand o) r → Stepped s s′ q q′ o rep ready → Noted (report rep ∷ []) r r′ → Finished s₀ q₀ p₀ s′ q′ ready r₀ r′
 finished-done s₀ s s′ q₀ q q′ p₀ r₀ r r′ o rep (us, m, f, n) w k =
     let last : Finishes (step s q o .state) (step s q o .quotes) (held-by (step s q o .left)) [] [] (step s q o .state) (step s q o .quotes) ready =
-      subst (λ (p : Pass). Finishes (step s q o .state) (step s q o .quotes) p [] [] (step s q o .state) (step s q o .quotes) ready) (w .pass-is) idle
+    subst (λ (p : Pass). Finishes (step s q o .state) (step s q o .quotes) p [] [] (step s q o .state) (step s q o .quotes) ready) (w .pass-is) idle
     in
     let all : Finishes s₀ q₀ p₀ (us ++ turn q Work ∷ []) (m ++ report (step s q o .report) ∷ []) (step s q o .state) (step s q o .quotes) ready = f _ _ _ _ _ (steps o (w .number-fits) last) in
     let here : Finishes s₀ q₀ p₀ (us ++ turn q Work ∷ []) (m ++ report rep ∷ []) s′ q′ ready =
-      subst (λ (x : Report). Finishes s₀ q₀ p₀ (us ++ turn q Work ∷ []) (m ++ report x ∷ []) s′ q′ ready) (sym (w .report-is))
-      (subst (λ (x : State). Finishes s₀ q₀ p₀ (us ++ turn q Work ∷ []) (m ++ report (step s q o .report) ∷ []) x q′ ready) (sym (w .state-is))
-      (subst (λ (x : Quotes). Finishes s₀ q₀ p₀ (us ++ turn q Work ∷ []) (m ++ report (step s q o .report) ∷ []) (step s q o .state) x ready) (sym (w .quotes-is)) all))
+    subst (λ (x : Report). Finishes s₀ q₀ p₀ (us ++ turn q Work ∷ []) (m ++ report x ∷ []) s′ q′ ready) (sym (w .report-is))
+    (subst (λ (x : State). Finishes s₀ q₀ p₀ (us ++ turn q Work ∷ []) (m ++ report (step s q o .report) ∷ []) x q′ ready) (sym (w .state-is))
+    (subst (λ (x : Quotes). Finishes s₀ q₀ p₀ (us ++ turn q Work ∷ []) (m ++ report (step s q o .report) ∷ []) (step s q o .state) x ready) (sym (w .quotes-is)) all))
     in
     (us ++ turn q Work ∷ [], m ++ report rep ∷ [], here, noted-on m (report rep ∷ []) r₀ r r′ n k)
 

@@ -40,14 +40,14 @@ pub data Finishes : State → Quotes → Pass → List Turn → List Told → St
   idle : {s : State} {q : Quotes} → Finishes s q ready [] [] s q ready
   over : {s : State} {q : Quotes} → Finishes s q ended [] [] s q ended
   steps : {s s′ : State} {q q′ : Quotes} {p′ : Pass} (o : Order) {ts : List Turn} {l : List Told} → fits (o .number) s ≡ true →
-    Finishes (step s q o .state) (step s q o .quotes) (held-by (step s q o .left)) ts l s′ q′ p′ →
-    Finishes s q (in-hand o) (turn q Work ∷ ts) (report (step s q o .report) ∷ l) s′ q′ p′
+      Finishes (step s q o .state) (step s q o .quotes) (held-by (step s q o .left)) ts l s′ q′ p′ →
+      Finishes s q (in-hand o) (turn q Work ∷ ts) (report (step s q o .report) ∷ l) s′ q′ p′
 
 -- a call, and the order that it takes in hand worked to its end
 pub data Performs (c : Call) (s : State) (q : Quotes) (p : Pass) : List Turn → List Told → State → Quotes → Pass → Type 0 where
   performs : {s′ : State} {q′ : Quotes} {p′ : Pass} {ts : List Turn} {l : List Told} →
-    Finishes (call q c s p .state) (call q c s p .quotes) (call q c s p .pass) ts l s′ q′ p′ →
-    Performs c s q p (turn q c ∷ ts) (tell (call q c s p .says) ++ l) s′ q′ p′
+      Finishes (call q c s p .state) (call q c s p .quotes) (call q c s p .pass) ts l s′ q′ p′ →
+      Performs c s q p (turn q c ∷ ts) (tell (call q c s p .says) ++ l) s′ q′ p′
 
 -- a quote: refused it changes nothing and is told; accepted it changes the side's list, and nothing is told
 abbrev pub Requotes : Side → Quotation → Option Refusal → State → Quotes → Pass → List Turn → List Told → State → Quotes → Pass → Type 0
@@ -69,4 +69,4 @@ Does Expire′ = Performs Expire
 pub data Day : List Instruction → State → Quotes → Pass → List Turn → List Told → State → Quotes → Pass → Type 0 where
   done : {s : State} {q : Quotes} {p : Pass} → Day [] s q p [] [] s q p
   then : {i : Instruction} {is : List Instruction} {s s₁ s₂ : State} {q q₁ q₂ : Quotes} {p p₁ p₂ : Pass} (ts us : List Turn) (l m : List Told) →
-    Does i s q p ts l s₁ q₁ p₁ → Day is s₁ q₁ p₁ us m s₂ q₂ p₂ → Day (i ∷ is) s q p (ts ++ us) (l ++ m) s₂ q₂ p₂
+      Does i s q p ts l s₁ q₁ p₁ → Day is s₁ q₁ p₁ us m s₂ q₂ p₂ → Day (i ∷ is) s q p (ts ++ us) (l ++ m) s₂ q₂ p₂

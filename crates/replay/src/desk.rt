@@ -58,7 +58,14 @@ fn finish(book: &mut Book, board: &mut TableBoard, hand: InHand, log: &mut Recor
     }
 }
 
-fn enter(book: &mut Book, board: &mut TableBoard, pass: Ready, side: Side, t: Terms, log: &mut Record) -> Ready
+fn enter(
+    book: &mut Book,
+    board: &mut TableBoard,
+    pass: Ready,
+    side: Side,
+    t: Terms,
+    log: &mut Record,
+) -> Ready
     requires { ⌜ ready-book pass ≡ id-of (now book) ⌝ }
     ensures performed { λ _. ⌜ Performed (Enter side t) (book-state (now (book .entry))) (lists-of (now (board .entry))) ready (book-state (now (book .exit))) (lists-of (now (board .exit))) ready (now (log .entry)) (now (log .exit)) ⌝ }
     ensures pass { λ r. ⌜ ready-book r ≡ ready-book pass ⌝ }
@@ -78,7 +85,14 @@ fn enter(book: &mut Book, board: &mut TableBoard, pass: Ready, side: Side, t: Te
     }
 }
 
-fn replace(book: &mut Book, board: &mut TableBoard, pass: Ready, t: Terms, number: u32, log: &mut Record) -> Ready
+fn replace(
+    book: &mut Book,
+    board: &mut TableBoard,
+    pass: Ready,
+    t: Terms,
+    number: u32,
+    log: &mut Record,
+) -> Ready
     requires { ⌜ ready-book pass ≡ id-of (now book) ⌝ }
     ensures performed { λ _. ⌜ Performed (Replace t number) (book-state (now (book .entry))) (lists-of (now (board .entry))) ready (book-state (now (book .exit))) (lists-of (now (board .exit))) ready (now (log .entry)) (now (log .exit)) ⌝ }
     ensures pass { λ r. ⌜ ready-book r ≡ ready-book pass ⌝ }
@@ -99,7 +113,14 @@ fn replace(book: &mut Book, board: &mut TableBoard, pass: Ready, t: Terms, numbe
     }
 }
 
-fn reply(book: &mut Book, board: &mut TableBoard, pass: Ready, filled: u32, number: u32, log: &mut Record) -> Ready
+fn reply(
+    book: &mut Book,
+    board: &mut TableBoard,
+    pass: Ready,
+    filled: u32,
+    number: u32,
+    log: &mut Record,
+) -> Ready
     requires { ⌜ ready-book pass ≡ id-of (now book) ⌝ }
     ensures performed { λ _. ⌜ Performed (Reply filled number) (book-state (now (book .entry))) (lists-of (now (board .entry))) ready (book-state (now (book .exit))) (lists-of (now (board .exit))) ready (now (log .entry)) (now (log .exit)) ⌝ }
     ensures pass { λ r. ⌜ ready-book r ≡ ready-book pass ⌝ }
@@ -207,7 +228,13 @@ fn no_pass(log: &mut Record)
 }
 
 // An instruction while trading is open.
-fn while_open(book: &mut Book, board: &mut TableBoard, pass: Ready, i: Instruction, log: &mut Record) -> Stage
+fn while_open(
+    book: &mut Book,
+    board: &mut TableBoard,
+    pass: Ready,
+    i: Instruction,
+    log: &mut Record,
+) -> Stage
     requires { ⌜ ready-book pass ≡ id-of (now book) ⌝ }
     ensures followed { λ r. ⌜ Followed i (book-state (now (book .entry))) (lists-of (now (board .entry))) ready (book-state (now (book .exit))) (lists-of (now (board .exit))) (stage-pass r) (now (log .entry)) (now (log .exit)) ⌝ }
     ensures pass { λ r. ⌜ stage-book r ≡ ready-book pass ⌝ }
@@ -216,7 +243,14 @@ fn while_open(book: &mut Book, board: &mut TableBoard, pass: Ready, i: Instructi
     match i {
         Instruction::Enter(side, t) => Stage::Open(enter(book, board, pass, side, t, log)),
         Instruction::Replace(t, number) => Stage::Open(replace(book, board, pass, t, number, log)),
-        Instruction::Reply { size, number } => Stage::Open(reply(book, board, pass, size, number, log)),
+        Instruction::Reply { size, number } => Stage::Open(reply(
+            book,
+            board,
+            pass,
+            size,
+            number,
+            log,
+        )),
         Instruction::Cut { size, user, number } => {
             cut(book, &pass, size, user, number, log);
             Stage::Open(pass)
@@ -238,7 +272,13 @@ fn while_open(book: &mut Book, board: &mut TableBoard, pass: Ready, i: Instructi
 }
 
 // An instruction once trading is over.
-fn once_over(book: &mut Book, board: &mut TableBoard, pass: Ended, i: Instruction, log: &mut Record) -> Stage
+fn once_over(
+    book: &mut Book,
+    board: &mut TableBoard,
+    pass: Ended,
+    i: Instruction,
+    log: &mut Record,
+) -> Stage
     requires { ⌜ ended-book pass ≡ id-of (now book) ⌝ }
     ensures followed { λ r. ⌜ Followed i (book-state (now (book .entry))) (lists-of (now (board .entry))) ended (book-state (now (book .exit))) (lists-of (now (board .exit))) (stage-pass r) (now (log .entry)) (now (log .exit)) ⌝ }
     ensures pass { λ r. ⌜ stage-book r ≡ ended-book pass ⌝ }
@@ -250,7 +290,11 @@ fn once_over(book: &mut Book, board: &mut TableBoard, pass: Ended, i: Instructio
         Instruction::Quote(side, q) => quote(board, side, q, log),
         Instruction::Enter(_, _) => no_pass(log),
         Instruction::Replace(_, _) => no_pass(log),
-        Instruction::Cut { size: _, user: _, number: _ } => no_pass(log),
+        Instruction::Cut {
+            size: _,
+            user: _,
+            number: _,
+        } => no_pass(log),
         Instruction::Cancel { user: _, number: _ } => no_pass(log),
         Instruction::Close => no_pass(log),
     }
@@ -258,7 +302,13 @@ fn once_over(book: &mut Book, board: &mut TableBoard, pass: Ended, i: Instructio
 }
 
 // Follows one instruction, with the order that it takes in hand worked to its end.
-pub(crate) fn follow(book: &mut Book, board: &mut TableBoard, stage: Stage, i: Instruction, log: &mut Record) -> Stage
+pub(crate) fn follow(
+    book: &mut Book,
+    board: &mut TableBoard,
+    stage: Stage,
+    i: Instruction,
+    log: &mut Record,
+) -> Stage
     requires { ⌜ stage-book stage ≡ id-of (now book) ⌝ }
     ensures followed { λ r. ⌜ Followed i (book-state (now (book .entry))) (lists-of (now (board .entry))) (stage-pass stage) (book-state (now (book .exit))) (lists-of (now (board .exit))) (stage-pass r) (now (log .entry)) (now (log .exit)) ⌝ }
     ensures pass { λ r. ⌜ stage-book r ≡ stage-book stage ⌝ }

@@ -43,7 +43,10 @@ impl Record {
     pub fn new(heap: Global) -> Record
         ensures { λ r. ⌜ (record-of r ≡ []) × (whole-of r ≡ true) ⌝ }
     {
-        Record { lines: Vec::new(heap), whole: true }
+        Record {
+            lines: Vec::new(heap),
+            whole: true,
+        }
     }
 
     // Adds a line.

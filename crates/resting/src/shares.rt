@@ -23,7 +23,11 @@ pub fn refreshed(p: Resting) -> Resting
     ensures { λ r. ⌜ r ≡ refresh p ⌝ }
 {
     let shown = p.show.min(p.shown + p.held);
-    Resting { shown, held: p.shown + p.held - shown, ..p }
+    Resting {
+        shown,
+        held: p.shown + p.held - shown,
+        ..p
+    }
 }
 
 // What a refresh would display: the smaller of the show and the held shares.
@@ -37,7 +41,15 @@ pub fn next_show_of(p: Resting) -> u32
 pub fn to_hand(side: Side, t: Terms, number: u32) -> Order
     ensures { λ r. ⌜ r ≡ entered side t number ⌝ }
 {
-    Order { number, user: t.user, side, limit: t.price, shares: t.size, show: t.show, kind: t.kind }
+    Order {
+        number,
+        user: t.user,
+        side,
+        limit: t.price,
+        shares: t.size,
+        show: t.show,
+        kind: t.kind,
+    }
 }
 
 // An order as it comes to rest.
@@ -45,7 +57,14 @@ pub fn to_rest(o: Order) -> Resting
     ensures { λ r. ⌜ r ≡ rested o ⌝ }
 {
     let shown = o.show.min(o.shares);
-    Resting { number: o.number, user: o.user, price: o.limit, shown, held: o.shares - shown, show: o.show }
+    Resting {
+        number: o.number,
+        user: o.user,
+        price: o.limit,
+        shown,
+        held: o.shares - shown,
+        show: o.show,
+    }
 }
 
 // The order with k shares less, if any is left.
@@ -56,14 +75,26 @@ pub fn left_of(o: Order, k: u32) -> Option<Order>
     if o.shares == k {
         return None;
     }
-    Some(Order { shares: o.shares - k, ..o })
+    Some(Order {
+        shares: o.shares - k,
+        ..o
+    })
 }
 
 // k shares of an order as a route to a quotation.
 pub fn to_route(o: Order, q: Quotation, number: u32, k: u32) -> Route
     ensures { λ r. ⌜ r ≡ routed o q number k ⌝ }
 {
-    Route { number, user: o.user, side: o.side, limit: o.limit, show: o.show, price: q.price, venue: q.venue, out: k }
+    Route {
+        number,
+        user: o.user,
+        side: o.side,
+        limit: o.limit,
+        show: o.show,
+        price: q.price,
+        venue: q.venue,
+        out: k,
+    }
 }
 
 // The shares of a route that come back, as an order in hand.
@@ -71,5 +102,13 @@ pub fn come_back(r: Route, filled: u32) -> Order
     requires { ⌜ filled ≤ r .out ⌝ }
     ensures { λ o. ⌜ o ≡ returned filled r ⌝ }
 {
-    Order { number: r.number, user: r.user, side: r.side, limit: r.limit, shares: r.out - filled, show: r.show, kind: Kind::Limit }
+    Order {
+        number: r.number,
+        user: r.user,
+        side: r.side,
+        limit: r.limit,
+        shares: r.out - filled,
+        show: r.show,
+        kind: Kind::Limit,
+    }
 }

@@ -50,7 +50,13 @@ impl Book {
     }
 
     // Takes shares off a user's resting order, which keeps its place: held shares first, then displayed ones.
-    pub fn cut(&mut self, pass: &Ready, size: u32, user: u32, number: u32) -> Result<Report, Refusal>
+    pub fn cut(
+        &mut self,
+        pass: &Ready,
+        size: u32,
+        user: u32,
+        number: u32,
+    ) -> Result<Report, Refusal>
         ensures outcome { λ r. ⌜ ((q : Quotes) → reported-as ready r (book-state (now (self .exit))) q ≡ own-call (eqb (now (pass .entry) .book) (now (self .entry) .id)) q (Cut size user number) (book-state (now (self .entry))) ready) ⌝ }
         ensures id { λ _. ⌜ now (self .exit) .id ≡ now (self .entry) .id ⌝ }
     {

@@ -67,7 +67,12 @@ impl Book {
     }
 
     // Takes an order in hand under the next number.
-    pub fn enter(&mut self, pass: Ready, side: Side, t: Terms) -> Result<(InHand, Report), (Refusal, Ready)>
+    pub fn enter(
+        &mut self,
+        pass: Ready,
+        side: Side,
+        t: Terms,
+    ) -> Result<(InHand, Report), (Refusal, Ready)>
         ensures outcome { λ r. ⌜ ((q : Quotes) → entered-as r (book-state (now (self .exit))) q ≡ own-call (eqb (pass .book) (now (self .entry) .id)) q (Enter side t) (book-state (now (self .entry))) ready) ⌝ }
         ensures pass { λ r. ⌜ entered-book r ≡ pass .book ⌝ }
         ensures id { λ _. ⌜ now (self .exit) .id ≡ now (self .entry) .id ⌝ }
@@ -87,7 +92,12 @@ impl Book {
     }
 
     // Removes a user's resting order and takes new terms in hand on its side, both or neither: off, then in.
-    pub fn replace(&mut self, pass: Ready, t: Terms, number: u32) -> Result<(InHand, Report, Report), (Refusal, Ready)>
+    pub fn replace(
+        &mut self,
+        pass: Ready,
+        t: Terms,
+        number: u32,
+    ) -> Result<(InHand, Report, Report), (Refusal, Ready)>
         ensures outcome { λ r. ⌜ ((q : Quotes) → replaced-as r (book-state (now (self .exit))) q ≡ own-call (eqb (pass .book) (now (self .entry) .id)) q (Replace t number) (book-state (now (self .entry))) ready) ⌝ }
         ensures pass { λ r. ⌜ replaced-book r ≡ pass .book ⌝ }
         ensures id { λ _. ⌜ now (self .exit) .id ≡ now (self .entry) .id ⌝ }

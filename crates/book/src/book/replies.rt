@@ -19,7 +19,12 @@ use resting::shares::come_back;
 
 impl Book {
     // Ends a route of which so many shares were filled. The others come back in hand.
-    pub fn reply(&mut self, pass: Ready, filled: u32, number: u32) -> Result<(Next, Report), (Refusal, Ready)>
+    pub fn reply(
+        &mut self,
+        pass: Ready,
+        filled: u32,
+        number: u32,
+    ) -> Result<(Next, Report), (Refusal, Ready)>
         ensures outcome { λ r. ⌜ ((q : Quotes) → replied-as r (book-state (now (self .exit))) q ≡ own-call (eqb (pass .book) (now (self .entry) .id)) q (Reply filled number) (book-state (now (self .entry))) ready) ⌝ }
         ensures pass { λ r. ⌜ replied-book r ≡ pass .book ⌝ }
         ensures id { λ _. ⌜ now (self .exit) .id ≡ now (self .entry) .id ⌝ }
@@ -47,7 +52,12 @@ impl Book {
     }
 
     // The same after the close: what is not filled is taken off.
-    pub fn late_reply(&mut self, pass: &Ended, filled: u32, number: u32) -> Result<(Report, Option<Report>), Refusal>
+    pub fn late_reply(
+        &mut self,
+        pass: &Ended,
+        filled: u32,
+        number: u32,
+    ) -> Result<(Report, Option<Report>), Refusal>
         ensures outcome { λ r. ⌜ ((q : Quotes) → late-as r (book-state (now (self .exit))) q ≡ own-call (eqb (now (pass .entry) .book) (now (self .entry) .id)) q (Reply filled number) (book-state (now (self .entry))) ended) ⌝ }
         ensures id { λ _. ⌜ now (self .exit) .id ≡ now (self .entry) .id ⌝ }
     {
@@ -66,7 +76,10 @@ impl Book {
                 if route.out == filled {
                     return Ok((report, None));
                 }
-                Ok((report, Some(off_hand_report(Reason::Expired, come_back(route, filled)))))
+                Ok((
+                    report,
+                    Some(off_hand_report(Reason::Expired, come_back(route, filled))),
+                ))
             }
         }
     }

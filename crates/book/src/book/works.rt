@@ -86,8 +86,14 @@ impl Book {
         let resting = self.orders.first_on(across);
         let quotation = first_line(board, across);
         if let Some(p) = resting {
-            if o.side.is_within(o.limit, p.price) && (o.kind.trades_past() || !first_better(board, across, p.price)) {
-                return Move::Trade { number: p.number, price: p.price, shown: p.shown };
+            if o.side.is_within(o.limit, p.price)
+                && (o.kind.trades_past() || !first_better(board, across, p.price))
+            {
+                return Move::Trade {
+                    number: p.number,
+                    price: p.price,
+                    shown: p.shown,
+                };
             }
         }
         if let Some(q) = quotation {
@@ -98,7 +104,11 @@ impl Book {
                 return Move::Send(q);
             }
         }
-        ending(is_resting_near(o, resting) || is_quotation_near(o, quotation), self.orders.is_full(o.side), o.kind)
+        ending(
+            is_resting_near(o, resting) || is_quotation_near(o, quotation),
+            self.orders.is_full(o.side),
+            o.kind,
+        )
     }
 
     fn trade(&mut self, o: Order, number: u32, price: u32, shown: u32) -> (Report, Option<Order>)
@@ -147,7 +157,11 @@ impl Book {
         ensures id { λ _. ⌜ now (self .exit) .id ≡ now (self .entry) .id ⌝ }
     {
         match self.decide(o, board) {
-            Move::Trade { number, price, shown } => self.trade(o, number, price, shown),
+            Move::Trade {
+                number,
+                price,
+                shown,
+            } => self.trade(o, number, price, shown),
             Move::Send(q) => self.send(o, q, board),
             Move::TakeOff(why) => take_off(o, why),
             Move::Rest => self.rest(o),
@@ -162,7 +176,11 @@ impl Book {
     }
 
     // Does one step of the order in hand.
-    pub fn work<B: Board>(&mut self, pass: InHand, board: &mut B) -> Result<(Next, Report), (Refusal, InHand)>
+    pub fn work<B: Board>(
+        &mut self,
+        pass: InHand,
+        board: &mut B,
+    ) -> Result<(Next, Report), (Refusal, InHand)>
         ensures outcome { λ r. ⌜ worked-as r (book-state (now (self .exit))) (quotes-of (bids (now (board .exit))) (offers (now (board .exit)))) ≡ own-call (eqb (pass .book) (now (self .entry) .id)) (quotes-of (bids (now (board .entry))) (offers (now (board .entry)))) Work (book-state (now (self .entry))) (in-hand (pass .order)) ⌝ }
         ensures pass { λ r. ⌜ worked-book r ≡ pass .book ⌝ }
         ensures id { λ _. ⌜ now (self .exit) .id ≡ now (self .entry) .id ⌝ }
@@ -179,7 +197,12 @@ impl Book {
     }
 
     // Does steps, and writes their reports from the front of the list, until the order is done or the list is full.
-    pub fn work_on<B: Board>(&mut self, pass: InHand, board: &mut B, reports: &mut [Report]) -> Result<(Next, usize), (Refusal, InHand)>
+    pub fn work_on<B: Board>(
+        &mut self,
+        pass: InHand,
+        board: &mut B,
+        reports: &mut [Report],
+    ) -> Result<(Next, usize), (Refusal, InHand)>
         ensures works { λ r. ⌜ WorksOn (now (self .entry) .id) pass (book-state (now (self .entry))) (book-state (now (self .exit))) (quotes-of (bids (now (board .entry))) (offers (now (board .entry)))) (quotes-of (bids (now (board .exit))) (offers (now (board .exit)))) (now (reports .entry)) (now (reports .exit)) r ⌝ }
         ensures id { λ _. ⌜ now (self .exit) .id ≡ now (self .entry) .id ⌝ }
     {

@@ -77,7 +77,11 @@ impl<T> RankedList<T> {
         T: Copy,
         ensures { λ r. ⌜ r ≡ nth (lines-of (now (self .entry))) place ⌝ }
     {
-        if place < self.lines.len() { Some(self.lines[place]) } else { None }
+        if place < self.lines.len() {
+            Some(self.lines[place])
+        } else {
+            None
+        }
     }
 
     // The line at a place.

@@ -123,10 +123,16 @@ impl OpenOrders {
     {
         let sought = Owned { user, number };
         if let Some(place) = self.buys.find(&sought) {
-            return Some(Standing { side: Side::Buy, place });
+            return Some(Standing {
+                side: Side::Buy,
+                place,
+            });
         }
         match self.sells.find(&sought) {
-            Some(place) => Some(Standing { side: Side::Sell, place }),
+            Some(place) => Some(Standing {
+                side: Side::Sell,
+                place,
+            }),
             None => None,
         }
     }

@@ -38,7 +38,12 @@ impl OpenOrders {
         let buys = RankedList::make(heap, 256)?;
         let sells = RankedList::make(heap, 256)?;
         let routes = RankedList::make(heap, 64)?;
-        Ok(OpenOrders { buys, sells, routes, next: first })
+        Ok(OpenOrders {
+            buys,
+            sells,
+            routes,
+            next: first,
+        })
     }
 
     // Gives the next number away.

@@ -35,7 +35,9 @@ returns c =
     let bs = c .args .bytes .now in
     let e : take (c .loop-b .b-index) bs ≡ bs = take-all (c .loop-b .b-index) bs (c .loop-b-test .left) in
     let lead : getD bs 0 0 ≡ 48 → length bs ≡ 1 = λ z. elim (c .else-bytes-gt1 .came) [
-        else-bytes-gt1·by·then-bytes-gt1·else-bytes-eq48 w ↦ omega (arith, z, w .if-bytes-eq48 .left) | else-bytes-gt1·by·else-bytes-gt1 w ↦ omega arith ] in
+      | else-bytes-gt1·by·then-bytes-gt1·else-bytes-eq48 w ↦ omega (arith, z, w .if-bytes-eq48 .left)
+      | else-bytes-gt1·by·else-bytes-gt1 w ↦ omega arith
+    ] in
     let v : c .loop-b .value ≡ value 10 bs = c .loop-b .inv .0 ∙ ap (value 10) e in
     let small : value 10 bs < 2 ^ 32 = omega arith in
     (c .loop-b .inv .1, written bs (omega arith) lead (subst (Digits 10) e (c .loop-b .inv .2)) small ∙ ap decimal (sym v))

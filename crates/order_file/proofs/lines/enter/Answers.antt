@@ -23,7 +23,7 @@ returns-in-Break-blank c =
     let r = err-from-errBy (c .from-residual-in-Break-blank .result) (c .from-residual-in-Break-blank .ensures .1) in
     let row = c .args .row .now in
     let a = after term-wants (a-blank ∷ a-blank ∷ []) (term-parts row) (row .number ∷ row .venue ∷ []) _ (c .in-Continue-terms .ensures tt .2)
-      (inl (c .in-Break-blank .ensures tt)) in
+    (inl (c .in-Break-blank .ensures tt)) in
     rw (r .1, r .2) (inr (c .in-Continue-side .ensures tt .1, a))
 
 pub returns-in-Break-blank-2 : need.returns-in-Break-blank-2
@@ -31,5 +31,5 @@ returns-in-Break-blank-2 c =
     let r = err-from-errBy (c .from-residual-in-Break-blank-2 .result) (c .from-residual-in-Break-blank-2 .ensures .1) in
     let row = c .args .row .now in
     let a = after term-wants (a-blank ∷ a-blank ∷ []) (term-parts row) (row .number ∷ row .venue ∷ []) _ (c .in-Continue-terms .ensures tt .2)
-      (inr (c .in-Continue-blank .ensures tt .1, inl (c .in-Break-blank-2 .ensures tt))) in
+    (inr (c .in-Continue-blank .ensures tt .1, inl (c .in-Break-blank-2 .ensures tt))) in
     rw (r .1, r .2) (inr (c .in-Continue-side .ensures tt .1, a))

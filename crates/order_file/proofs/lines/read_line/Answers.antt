@@ -23,5 +23,5 @@ pub returns : need.returns
 returns c =
     let w = c .in-Continue-row .ensures tt in
     let d = by-word (c .in-Continue-verb .verb) (c .args .bytes .now) (c .args .line) (c .in-Continue-row .row .call) (values (c .in-Continue-row .row)) (c .by-verb .result)
-      (w .0) refl (w .1 .1) (c .in-Continue-verb .ensures tt .0) (c .by-verb .ensures) in
+    (w .0) refl (w .1 .1) (c .in-Continue-verb .ensures tt .0) (c .by-verb .ensures) in
     record { accepts = d .accepts; fault = d .fault }

@@ -32,15 +32,15 @@ pub returns-in-Break-instruction : need.returns-in-Break-instruction
 returns-in-Break-instruction c =
     let r = err-from-errBy (c .from-residual-in-Break-instruction .result) (c .from-residual-in-Break-instruction .ensures .1) in
     let d = refused (c .args .file .now) (c .loop-reader .reader .condition) (c .loop-reader .reader .rest .now) (c .loop-reader .reader .line) (vec-items (c .loop-reader .instructions)) (c .in-Break-instruction .field-0 .0)
-      (c .step .last .self .condition) (c .step .last .self .rest .now) (c .step .last .self .line)
-      (c .in-Continue-check-length .ensures tt) (c .loop-reader .inv .0) (c .in-Break-instruction .ensures tt) in
+    (c .step .last .self .condition) (c .step .last .self .rest .now) (c .step .last .self .line)
+    (c .in-Continue-check-length .ensures tt) (c .loop-reader .inv .0) (c .in-Break-instruction .ensures tt) in
     rw (r .1, r .2) (record { accepted = d .accepted; fault = d .fault; unambiguous = one-file-each })
 
 pub push-reserved-requires : need.push-reserved-requires
 push-reserved-requires c κs =
     let i = c .loop-reader .inv in
     let l = taken-off (c .loop-reader .reader .condition) (c .loop-reader .reader .rest .now) (c .loop-reader .reader .line) (c .in-Continue-instruction .field-0) (c .in-Some .instruction)
-      (c .step .last .self .condition) (c .step .last .self .rest .now) (c .step .last .self .line) (c .in-Continue-instruction .ensures tt) (c .in-Some .is) in
+    (c .step .last .self .condition) (c .step .last .self .rest .now) (c .step .last .self .line) (c .in-Continue-instruction .ensures tt) (c .in-Some .is) in
     omega (arith, i .1, i .2, l, c .loop-reader .instructions .ok .0)
 
 pub loop-reader-less-in-Some : need.loop-reader-less-in-Some
@@ -54,11 +54,12 @@ loop-reader-again-in-Some c =
     let v = c .in-Continue-instruction .ensures tt in
     let n = c .push-reserved .ensures .items in
     let l = taken-off (c .loop-reader .reader .condition) (c .loop-reader .reader .rest .now) (c .loop-reader .reader .line) (c .in-Continue-instruction .field-0) (c .in-Some .instruction)
-      (c .step .last .self .condition) (c .step .last .self .rest .now) (c .step .last .self .line) v (c .in-Some .is) in
-    (added (c .args .file .now) (c .loop-reader .reader .condition) (c .loop-reader .reader .rest .now) (c .loop-reader .reader .line) (vec-items (c .loop-reader .instructions)) (c .in-Continue-instruction .field-0) (c .in-Some .instruction)
-      (c .step .last .self .condition) (c .step .last .self .rest .now) (c .step .last .self .line) (vec-items (c .push-reserved .last .self)) (i .0) v (c .in-Some .is) n,
-     omega (arith, i .1, l, ap length n ∙ length-append (vec-items (c .loop-reader .instructions)) (c .in-Some .instruction ∷ [])),
-     omega (arith, i .2, c .push-reserved .ensures .capacity))
+    (c .step .last .self .condition) (c .step .last .self .rest .now) (c .step .last .self .line) v (c .in-Some .is) in (
+      added (c .args .file .now) (c .loop-reader .reader .condition) (c .loop-reader .reader .rest .now) (c .loop-reader .reader .line) (vec-items (c .loop-reader .instructions)) (c .in-Continue-instruction .field-0) (c .in-Some .instruction)
+          (c .step .last .self .condition) (c .step .last .self .rest .now) (c .step .last .self .line) (vec-items (c .push-reserved .last .self)) (i .0) v (c .in-Some .is) n,
+      omega (arith, i .1, l, ap length n ∙ length-append (vec-items (c .loop-reader .instructions)) (c .in-Some .instruction ∷ [])),
+      omega (arith, i .2, c .push-reserved .ensures .capacity),
+    )
 
 pub loop-reader-less : need.loop-reader-less
 loop-reader-less c =
@@ -69,7 +70,7 @@ pub loop-reader-again : need.loop-reader-again
 loop-reader-again c =
     let i = c .loop-reader .inv in
     let p = passed (c .args .file .now) (c .loop-reader .reader .condition) (c .loop-reader .reader .rest .now) (c .loop-reader .reader .line) (vec-items (c .loop-reader .instructions)) (c .in-Continue-instruction .field-0)
-      (c .step .last .self .condition) (c .step .last .self .rest .now) (c .step .last .self .line) (i .0) (c .in-Continue-instruction .ensures tt) (c .in-rest .is) in
+    (c .step .last .self .condition) (c .step .last .self .rest .now) (c .step .last .self .line) (i .0) (c .in-Continue-instruction .ensures tt) (c .in-rest .is) in
     (p .0, omega (arith, i .1, p .1), i .2)
 
 pub returns : need.returns

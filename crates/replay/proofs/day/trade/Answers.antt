@@ -14,9 +14,10 @@ loop-i-holds c =
 pub loop-i-again : need.loop-i-again
 loop-i-again c =
     let l = c .loop-i in
-    let e = c .follow-stage .ensures in
-    (e .pass ∙ l .inv .0 ∙ sym (e .id),
-      so-far-more (c .args .instructions .now) (l .i-index) _ (book-state (l .book)) (book-state (c .follow-stage .last .book)) (lists-of (l .board)) (lists-of (c .follow-stage .last .board)) (stage-pass (l .stage)) (stage-pass (c .follow-stage .result)) (l .log) (c .follow-stage .last .log) (c .loop-i-test .taken) (l .inv .1) (e .followed))
+    let e = c .follow-stage .ensures in (
+      e .pass ∙ l .inv .0 ∙ sym (e .id),
+      so-far-more (c .args .instructions .now) (l .i-index) _ (book-state (l .book)) (book-state (c .follow-stage .last .book)) (lists-of (l .board)) (lists-of (c .follow-stage .last .board)) (stage-pass (l .stage)) (stage-pass (c .follow-stage .result)) (l .log) (c .follow-stage .last .log) (c .loop-i-test .taken) (l .inv .1) (e .followed),
+    )
 
 pub returns : need.returns
 returns c =

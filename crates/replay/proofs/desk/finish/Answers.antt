@@ -27,10 +27,10 @@ returns-in-Done c =
     let o = order-of (l .hand) in
     let e = c .in-Ok .ensures tt in
     let w : Stepped s (book-state (c .work .last .self)) q (lists-of (c .work .last .board)) o (c .in-Ok .worked .1) (next-pass (c .in-Ok .worked .0)) =
-      work-steps (hand-book (l .hand)) (id-of (l .book)) s _ q _ o _ _ (l .inv .0 ∙ c .pre .own ∙ sym (l .inv .1)) (l .inv .2) (e .outcome)
+    work-steps (hand-book (l .hand)) (id-of (l .book)) s _ q _ o _ _ (l .inv .0 ∙ c .pre .own ∙ sym (l .inv .1)) (l .inv .2) (e .outcome)
     in
     let w′ : Stepped s (book-state (c .work .last .self)) q (lists-of (c .work .last .board)) o (c .in-Ok .worked .1) ready =
-      subst (λ (p : Pass). Stepped s (book-state (c .work .last .self)) q (lists-of (c .work .last .board)) o (c .in-Ok .worked .1) p) (ap next-pass (c .in-Done .is)) w
+    subst (λ (p : Pass). Stepped s (book-state (c .work .last .self)) q (lists-of (c .work .last .board)) o (c .in-Ok .worked .1) p) (ap next-pass (c .in-Done .is)) w
     in
     record {
       finished = finished-done (book-state (c .args .book .now)) s _ (lists-of (c .args .board .now)) q _ (in-hand (order-of (c .args .hand))) (c .args .log .now) (l .log) (c .note .last .self) o (c .in-Ok .worked .1) (l .inv .3) w′ (c .note .ensures);
@@ -57,13 +57,14 @@ loop-worked-again c =
     let o′ = order-of (c .in-More .rest) in
     let x = c .in-Ok .ensures tt in
     let w : Stepped s (book-state (c .work .last .self)) q (lists-of (c .work .last .board)) o (c .in-Ok .worked .1) (next-pass (c .in-Ok .worked .0)) =
-      work-steps (hand-book (l .hand)) (id-of (l .book)) s _ q _ o _ _ (l .inv .0 ∙ c .pre .own ∙ sym (l .inv .1)) (l .inv .2) (x .outcome)
+    work-steps (hand-book (l .hand)) (id-of (l .book)) s _ q _ o _ _ (l .inv .0 ∙ c .pre .own ∙ sym (l .inv .1)) (l .inv .2) (x .outcome)
     in
     let w′ : Stepped s (book-state (c .work .last .self)) q (lists-of (c .work .last .board)) o (c .in-Ok .worked .1) (in-hand o′) =
-      subst (λ (p : Pass). Stepped s (book-state (c .work .last .self)) q (lists-of (c .work .last .board)) o (c .in-Ok .worked .1) p) (ap next-pass (c .in-More .is)) w
+    subst (λ (p : Pass). Stepped s (book-state (c .work .last .self)) q (lists-of (c .work .last .board)) o (c .in-Ok .worked .1) p) (ap next-pass (c .in-More .is)) w
     in
-    let e = left-is (step s q o .left) o′ (w′ .pass-is) in
-    (sym (ap next-book (c .in-More .is)) ∙ x .pass ∙ l .inv .0,
+    let e = left-is (step s q o .left) o′ (w′ .pass-is) in (
+      sym (ap next-book (c .in-More .is)) ∙ x .pass ∙ l .inv .0,
       x .id ∙ l .inv .1,
       ap (fits (o′ .number)) (w .state-is) ∙ fits-after s q o o′ (l .inv .2) e,
-      onward-more (book-state (c .args .book .now)) s _ (lists-of (c .args .board .now)) q _ (in-hand (order-of (c .args .hand))) (c .args .log .now) (l .log) (c .note .last .self) o o′ (c .in-Ok .worked .1) (l .inv .3) w′ (c .note .ensures))
+      onward-more (book-state (c .args .book .now)) s _ (lists-of (c .args .board .now)) q _ (in-hand (order-of (c .args .hand))) (c .args .log .now) (l .log) (c .note .last .self) o o′ (c .in-Ok .worked .1) (l .inv .3) w′ (c .note .ensures),
+    )

@@ -15,6 +15,6 @@ returns-in-Some c =
     let r = c .take-out .result in
     record {
       outcome = λ q. own-yes (c .args .pass .now .book) (b .id) q (Cancel (c .args .user) (c .args .number)) s ready _ (c .if-pass-self .left)
-        (cancel-done s q (c .args .user) (c .args .number) (at-place (at .side) (at .place) s r) (c .line-at-line .result) _ _ (c .if-not-is-legal-user .ensures tt) (c .in-Some .ensures tt .1 r) (c .line-at-line .ensures .value r) (c .off-report-of .ensures) (c .take-out .ensures .state));
+          (cancel-done s q (c .args .user) (c .args .number) (at-place (at .side) (at .place) s r) (c .line-at-line .result) _ _ (c .if-not-is-legal-user .ensures tt) (c .in-Some .ensures tt .1 r) (c .line-at-line .ensures .value r) (c .off-report-of .ensures) (c .take-out .ensures .state));
       id = refl;
     }

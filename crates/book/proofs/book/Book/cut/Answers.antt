@@ -20,7 +20,7 @@ returns-then-size-line c =
     let x = c .line-at-line .result in
     record {
       outcome = λ q. own-yes (c .args .pass .now .book) (b .id) q (Cut (c .args .size) (c .args .user) (c .args .number)) s ready _ (c .if-pass-self .left)
-        (cut-large s q (c .args .size) (c .args .user) (c .args .number) (at-place (at .side) (at .place) s x) x (c .in-rest .ensures tt) (c .in-Some-find .ensures tt .1 x) (c .line-at-line .ensures .value x) (c .if-size-line .taken));
+          (cut-large s q (c .args .size) (c .args .user) (c .args .number) (at-place (at .side) (at .place) s x) x (c .in-rest .ensures tt) (c .in-Some-find .ensures tt .1 x) (c .line-at-line .ensures .value x) (c .if-size-line .taken));
       id = refl;
     }
 
@@ -40,6 +40,6 @@ returns-else-size-line c =
     let x = c .line-at-line .result in
     record {
       outcome = λ q. own-yes (c .args .pass .now .book) (b .id) q (Cut (c .args .size) (c .args .user) (c .args .number)) s ready _ (c .if-pass-self .left)
-        (cut-done s q (c .args .size) (c .args .user) (c .args .number) (at-place (at .side) (at .place) s x) x _ _ (c .in-rest .ensures tt) (c .in-Some-find .ensures tt .1 x) (c .line-at-line .ensures .value x) (c .if-size-line .left) (c .off-report-of .ensures) (c .trim .ensures x));
+          (cut-done s q (c .args .size) (c .args .user) (c .args .number) (at-place (at .side) (at .place) s x) x _ _ (c .in-rest .ensures tt) (c .in-Some-find .ensures tt .1 x) (c .line-at-line .ensures .value x) (c .if-size-line .left) (c .off-report-of .ensures) (c .trim .ensures x));
       id = refl;
     }

@@ -17,7 +17,7 @@ returns-in-Some c =
     let s = book-state b in
     record {
       outcome = λ q. own-yes (c .args .pass .book) (b .id) q (Enter (c .args .side) (c .args .t)) s ready _ (c .if-pass-self .left)
-        (refused-by s q ready (admit [] (c .args .side) (c .args .t) s q) (enter-refusal (c .args .t) s) (c .in-Some .why) (c .in-Some .ensures tt));
+          (refused-by s q ready (admit [] (c .args .side) (c .args .t) s q) (enter-refusal (c .args .t) s) (c .in-Some .why) (c .in-Some .ensures tt));
       pass = refl;
       id = refl;
     }

@@ -13,6 +13,6 @@ returns-in-Some c =
     let x = c .line-at-line .result in
     record {
       outcome = λ q. own-yes (c .args .pass .now .book) (b .id) q Expire s ended _ (c .if-pass-self .left)
-        (expire-done (c .in-Some .side) s _ q x _ (c .in-Some .ensures tt) (c .line-at-line .ensures .value x) (c .off-report-of .ensures) (c .take-out .ensures .state));
+          (expire-done (c .in-Some .side) s _ q x _ (c .in-Some .ensures tt) (c .line-at-line .ensures .value x) (c .off-report-of .ensures) (c .take-out .ensures .state));
       id = refl;
     }

@@ -14,7 +14,7 @@ returns-then-filled-route c =
     let x = c .route-at-route .result in
     record {
       outcome = λ q. own-yes (c .args .pass .now .book) (b .id) q (Reply (c .args .filled) (c .args .number)) s ended _ (c .if-pass-self .left)
-        (late-large s q (c .args .filled) (c .args .number) (spot-at (s .routes) (c .in-Some .place) x) x (c .in-Some .ensures tt .1 x) (c .route-at-route .ensures x) (c .if-filled-route .taken));
+          (late-large s q (c .args .filled) (c .args .number) (spot-at (s .routes) (c .in-Some .place) x) x (c .in-Some .ensures tt .1 x) (c .route-at-route .ensures x) (c .if-filled-route .taken));
       id = refl;
     }
 
@@ -26,7 +26,7 @@ returns-then-route-filled c =
     let r = c .end-route .result in
     record {
       outcome = λ q. own-yes (c .args .pass .now .book) (b .id) q (Reply (c .args .filled) (c .args .number)) s ended _ (c .if-pass-self .left)
-        (late-filled s q (c .args .filled) (c .args .number) (spot-at (s .routes) (c .in-Some .place) r) x (c .in-Some .ensures tt .1 r) (c .route-at-route .ensures r) _ _ (c .if-route-filled .taken) (c .back-report-of-report .ensures) (c .end-route .ensures .state));
+          (late-filled s q (c .args .filled) (c .args .number) (spot-at (s .routes) (c .in-Some .place) r) x (c .in-Some .ensures tt .1 r) (c .route-at-route .ensures r) _ _ (c .if-route-filled .taken) (c .back-report-of-report .ensures) (c .end-route .ensures .state));
       id = refl;
     }
 
@@ -38,6 +38,6 @@ returns-else-route-filled c =
     let r = c .end-route .result in
     record {
       outcome = λ q. own-yes (c .args .pass .now .book) (b .id) q (Reply (c .args .filled) (c .args .number)) s ended _ (c .if-pass-self .left)
-        (late-returned s q (c .args .filled) (c .args .number) (spot-at (s .routes) (c .in-Some .place) r) x (c .in-Some .ensures tt .1 r) (c .route-at-route .ensures r) _ _ _ _ (c .if-filled-route .left) (c .if-route-filled .left) (c .back-report-of-report .ensures) (c .end-route .ensures .state) (c .come-back .ensures) (c .off-hand-report .ensures));
+          (late-returned s q (c .args .filled) (c .args .number) (spot-at (s .routes) (c .in-Some .place) r) x (c .in-Some .ensures tt .1 r) (c .route-at-route .ensures r) _ _ _ _ (c .if-filled-route .left) (c .if-route-filled .left) (c .back-report-of-report .ensures) (c .end-route .ensures .state) (c .come-back .ensures) (c .off-hand-report .ensures));
       id = refl;
     }

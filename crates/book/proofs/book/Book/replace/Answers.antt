@@ -23,7 +23,7 @@ returns-in-Some c =
     let t = c .args .t in
     record {
       outcome = λ q. own-yes (c .args .pass .book) (b .id) q (Replace t (c .args .number)) s ready _ (c .if-pass-self .left)
-        (refused-by s q ready (replace-at t (find (t .user) (c .args .number) s) s q) (terms-refusal t) (c .in-Some .why) (c .in-Some .ensures tt));
+          (refused-by s q ready (replace-at t (find (t .user) (c .args .number) s) s q) (terms-refusal t) (c .in-Some .why) (c .in-Some .ensures tt));
       pass = refl;
       id = refl;
     }
@@ -60,7 +60,7 @@ returns-else-next-number-eq0 c =
     let r = c .take-out .result in
     record {
       outcome = λ q. own-yes (c .args .pass .book) (b .id) q (Replace (c .args .t) (c .args .number)) s ready _ (c .if-pass-self .left)
-        (replace-done s q (c .args .t) (c .args .number) (at-place (at .side) (at .place) s r) (c .line-at-line .result) _ _ _ _ _ _ (c .in-rest .ensures tt) (c .in-Some-find .ensures tt .1 r) (c .line-at-line .ensures .value r) (λ e. c .if-next-number-eq0 .left (c .next-number .ensures ∙ e)) (c .off-report-of-off .ensures) (c .take-out .ensures .state) (c .take-number-new .ensures .number) (c .to-hand-order .ensures) (c .in-report-of .ensures) (c .take-number-new .ensures .state));
+          (replace-done s q (c .args .t) (c .args .number) (at-place (at .side) (at .place) s r) (c .line-at-line .result) _ _ _ _ _ _ (c .in-rest .ensures tt) (c .in-Some-find .ensures tt .1 r) (c .line-at-line .ensures .value r) (λ e. c .if-next-number-eq0 .left (c .next-number .ensures ∙ e)) (c .off-report-of-off .ensures) (c .take-out .ensures .state) (c .take-number-new .ensures .number) (c .to-hand-order .ensures) (c .in-report-of .ensures) (c .take-number-new .ensures .state));
       pass = refl;
       id = refl;
     }

@@ -15,7 +15,7 @@ returns-then-filled-route c =
     let x = c .route-at-route .result in
     record {
       outcome = λ q. own-yes (c .args .pass .book) (b .id) q (Reply (c .args .filled) (c .args .number)) s ready _ (c .if-pass-self .left)
-        (reply-large s q (c .args .filled) (c .args .number) (spot-at (s .routes) (c .in-Some .place) x) x (c .in-Some .ensures tt .1 x) (c .route-at-route .ensures x) (c .if-filled-route .taken));
+          (reply-large s q (c .args .filled) (c .args .number) (spot-at (s .routes) (c .in-Some .place) x) x (c .in-Some .ensures tt .1 x) (c .route-at-route .ensures x) (c .if-filled-route .taken));
       pass = refl;
       id = refl;
     }
@@ -28,7 +28,7 @@ returns-then-route-filled c =
     let r = c .end-route .result in
     record {
       outcome = λ q. own-yes (c .args .pass .book) (b .id) q (Reply (c .args .filled) (c .args .number)) s ready _ (c .if-pass-self .left)
-        (reply-filled s q (c .args .filled) (c .args .number) (spot-at (s .routes) (c .in-Some .place) r) x (c .in-Some .ensures tt .1 r) (c .route-at-route .ensures r) _ _ (c .if-route-filled .taken) (c .back-report-of-report .ensures) (c .end-route .ensures .state));
+          (reply-filled s q (c .args .filled) (c .args .number) (spot-at (s .routes) (c .in-Some .place) r) x (c .in-Some .ensures tt .1 r) (c .route-at-route .ensures r) _ _ (c .if-route-filled .taken) (c .back-report-of-report .ensures) (c .end-route .ensures .state));
       pass = refl;
       id = refl;
     }
@@ -41,7 +41,7 @@ returns-else-route-filled c =
     let r = c .end-route .result in
     record {
       outcome = λ q. own-yes (c .args .pass .book) (b .id) q (Reply (c .args .filled) (c .args .number)) s ready _ (c .if-pass-self .left)
-        (reply-returned s q (c .args .filled) (c .args .number) (spot-at (s .routes) (c .in-Some .place) r) x (c .in-Some .ensures tt .1 r) (c .route-at-route .ensures r) _ _ _ (c .if-filled-route .left) (c .if-route-filled .left) (c .back-report-of-report .ensures) (c .end-route .ensures .state) (c .come-back-order .ensures));
+          (reply-returned s q (c .args .filled) (c .args .number) (spot-at (s .routes) (c .in-Some .place) r) x (c .in-Some .ensures tt .1 r) (c .route-at-route .ensures r) _ _ _ (c .if-filled-route .left) (c .if-route-filled .left) (c .back-report-of-report .ensures) (c .end-route .ensures .state) (c .come-back-order .ensures));
       pass = refl;
       id = refl;
     }

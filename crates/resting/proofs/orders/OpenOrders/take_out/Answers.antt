@@ -35,7 +35,7 @@ returns-in-Buy c =
     record {
       value = subst (λ (d : Side). (x : Resting) → r ≡ getD (on d (state-of b)) i x) (sym (c .in-Buy .is)) (e .value);
       state = subst (λ (d : Side). state (lines-of (c .remove .last .self)) (lines-of (b .sells)) (lines-of (b .routes)) (b .next) ≡ taken-out (at-place d i (state-of b) r) (state-of b)) (sym (c .in-Buy .is))
-      (ap (λ l. state l (lines-of (b .sells)) (lines-of (b .routes)) (b .next)) (e .lines ∙ removed-is (lines-of (b .buys)) i));
+          (ap (λ l. state l (lines-of (b .sells)) (lines-of (b .routes)) (b .next)) (e .lines ∙ removed-is (lines-of (b .buys)) i));
     }
 
 pub returns-in-Sell : need.returns-in-Sell
@@ -47,5 +47,5 @@ returns-in-Sell c =
     record {
       value = subst (λ (d : Side). (x : Resting) → r ≡ getD (on d (state-of b)) i x) (sym (c .in-Sell .is)) (e .value);
       state = subst (λ (d : Side). state (lines-of (b .buys)) (lines-of (c .remove-in-Sell .last .self)) (lines-of (b .routes)) (b .next) ≡ taken-out (at-place d i (state-of b) r) (state-of b)) (sym (c .in-Sell .is))
-      (ap (λ l. state (lines-of (b .buys)) l (lines-of (b .routes)) (b .next)) (e .lines ∙ removed-is (lines-of (b .sells)) i));
+          (ap (λ l. state (lines-of (b .buys)) l (lines-of (b .routes)) (b .next)) (e .lines ∙ removed-is (lines-of (b .sells)) i));
     }
