@@ -27,19 +27,24 @@ fn first_bytes<R: Read>(from: &mut R, rt: &LibcRuntime) -> io::Result<Vec<u8>> {
     Ok(bytes)
 }
 
+fn bytes_of(path: &str, rt: &LibcRuntime) -> io::Result<Vec<u8>> {
+    let mut file = File::open(rt, path)?;
+    first_bytes(&mut file, rt)
+}
+
 // The bytes of the order file, whole if it is not too long.
 pub fn order_file(rt: &LibcRuntime) -> Result<Vec<u8>, AnyError> {
     let mut words = env::args(rt)?;
     let _program = words.next();
     let path = words.next();
     if words.next().is_some() {
-        return Err("session: give one order file, or none to read standard input".into());
+        return Err("give one order file, or none to read standard input".into());
     }
     match path {
         None => Ok(first_bytes(&mut rt.stdin(), rt)?),
-        Some(path) => {
-            let mut file = File::open(rt, path.as_str())?;
-            Ok(first_bytes(&mut file, rt)?)
-        }
+        Some(path) => match bytes_of(path.as_str(), rt) {
+            Ok(bytes) => Ok(bytes),
+            Err(e) => Err(format!(rt.alloc(), "cannot read {}: {e}", path.as_str())?.into()),
+        },
     }
 }

@@ -9,10 +9,15 @@ fn run(rt: &LibcRuntime) -> Result<(), AnyError> {
     let file = order_file(rt)?;
     match replay(file.as_slice(), rt.alloc()) {
         Ok(text) => Ok(rt.print(text.as_str())?),
-        Err(_) => Err("session: there is not enough memory".into()),
+        Err(_) => Err("there is not enough memory".into()),
     }
 }
 
 fn main(rt: LibcRuntime) -> Result<(), AnyError> {
-    rt.report(run(&rt))
+    let done = run(&rt);
+    if let Err(e) = &done {
+        // Where even this cannot be written, the status still tells.
+        let _ = rt.eprintln(format_args!("session: {e}"));
+    }
+    done
 }
