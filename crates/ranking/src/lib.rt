@@ -1,3 +1,5 @@
 // Lists kept in rank, written once for every kind of line.
+#![tactic(auto)]
+
 pub mod list;
 pub mod rank;

@@ -13,7 +13,7 @@ use std::alloc::{AllocError, Global};
 // Where x is to go: before the first line that it stands before.
 fn place_of<T, R: Rank<T>>(lines: &[T], by: &R, x: &T) -> usize
     ensures within { result ≤ length lines.now }
-    ensures place { insert lines.now result x.now ≡ place (before by.now) x.now lines.now }
+    ensures place { insert lines.now result x.now ≡ place (R.before by.now) x.now lines.now }
 {
     for (i, y) in lines.iter().enumerate() {
         if by.stands_before(x, y) {
@@ -25,7 +25,7 @@ fn place_of<T, R: Rank<T>>(lines: &[T], by: &R, x: &T) -> usize
 
 // The place of the first line that meets what is sought.
 fn first_met<T, S: Sought<T>>(lines: &[T], by: &S) -> Option<usize>
-    ensures { Found (fits by.now) lines.now result }
+    ensures { Found (S.fits by.now) lines.now result }
 {
     for (i, y) in lines.iter().enumerate() {
         if by.is_met_by(y) {
@@ -37,7 +37,7 @@ fn first_met<T, S: Sought<T>>(lines: &[T], by: &S) -> Option<usize>
 
 // Whether no line meets what is sought.
 fn none_met<T, S: Sought<T>>(lines: &[T], by: &S) -> bool
-    ensures { result ≡ every (λ x. not (fits by.now x)) lines.now }
+    ensures { result ≡ every (λ x. not (S.fits by.now x)) lines.now }
 {
     for y in lines {
         if by.is_met_by(y) {
@@ -96,14 +96,14 @@ impl<T> RankedList<T> {
 
     // The place of the first line that meets what is sought.
     pub fn find<S: Sought<T>>(&self, by: &S) -> Option<usize>
-        ensures { Found (fits by.now) (lines_of self.now) result }
+        ensures { Found (S.fits by.now) (lines_of self.now) result }
     {
         first_met(self.lines.as_slice(), by)
     }
 
     // Whether no line meets what is sought.
     pub fn lacks<S: Sought<T>>(&self, by: &S) -> bool
-        ensures { result ≡ every (λ x. not (fits by.now x)) (lines_of self.now) }
+        ensures { result ≡ every (λ x. not (S.fits by.now x)) (lines_of self.now) }
     {
         none_met(self.lines.as_slice(), by)
     }
@@ -132,9 +132,9 @@ impl<T> RankedList<T> {
     where
         T: Drop,
         requires { length (lines_of self.old) < most_of self.old }
-        ensures lines { lines_of self.new ≡ place (before by.now) x (lines_of self.old) }
-        ensures behind { in_rank (before by.now) (lines_of self.old) ≡ true → lines_of self.new ≡ behind (before by.now) x (lines_of self.old) }
-        ensures ranked { in_rank (before by.now) (lines_of self.old) ≡ true → in_rank (before by.now) (lines_of self.new) ≡ true }
+        ensures lines { lines_of self.new ≡ place (R.before by.now) x (lines_of self.old) }
+        ensures behind { in_rank (R.before by.now) (lines_of self.old) ≡ true → lines_of self.new ≡ behind (R.before by.now) x (lines_of self.old) }
+        ensures ranked { in_rank (R.before by.now) (lines_of self.old) ≡ true → in_rank (R.before by.now) (lines_of self.new) ≡ true }
         ensures most { most_of self.new ≡ most_of self.old }
         ensures still { store_of self.new ≡ store_of self.old }
     {

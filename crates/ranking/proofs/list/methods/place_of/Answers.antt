@@ -2,15 +2,15 @@ use Rattle.std.proofs.Common.{sym, ◌∙◌, arith}
 use Rattle.ranking.proofs.Placing.{place_more, place_here, place_last}
 use Rattle.ranking.proofs.list.methods.place_of.Goals as goal
 
-pub returns-then-stands-before : goal.returns-then-stands-before
-returns-then-stands-before g c = record {
+pub returns-then-stands_before : goal.returns-then-stands_before
+returns-then-stands_before g c = record {
   within = omega arith;
-  place = place_here (g.R.Rank.before c.args.by.now) _ _ _ c.index-lines-i.result c.loop-i-test.true c.index-lines-i.is (sym c.if-stands-before.ensures) c.loop-i.invariant;
+  place = place_here (g.R.Rank.before c.args.by.now) _ _ _ c.index-lines-i.result c.loop-i-test.true c.index-lines-i.is (sym c.if-stands_before.ensures) c.loop-i.invariant;
 }
 
 pub loop-i-preserved : goal.loop-i-preserved
 loop-i-preserved g c =
-    place_more (g.R.Rank.before c.args.by.now) _ _ _ c.index-lines-i.result c.loop-i-test.true c.index-lines-i.is (sym c.if-stands-before.ensures) c.loop-i.invariant
+    place_more (g.R.Rank.before c.args.by.now) _ _ _ c.index-lines-i.result c.loop-i-test.true c.index-lines-i.is (sym c.if-stands_before.ensures) c.loop-i.invariant
 
 pub returns : goal.returns
 returns g c = record {
