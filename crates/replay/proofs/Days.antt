@@ -9,7 +9,7 @@ use Rattle.replay.specs.Days.{Told, Day, done, then}
 use Rattle.replay.specs.Records.{record_of, whole_of, told_of}
 use Rattle.book.specs.Outcomes.{book_state}
 use Rattle.replay.specs.Desks.{Followed, stage_pass}
-use Rattle.replay.specs.Sessions.{Session, Ran, Traded}
+use Rattle.replay.specs.Sessions.{Session, EndsWith, Ran, Traded}
 use Rattle.replay.specs.declared.day.DayRun.{DayRun}
 use Rattle.replay.proofs.Laws.{lawful}
 use Rattle.replay.specs.declared.record.Line.{Line}
@@ -40,13 +40,17 @@ module _ (is : List Instruction) where
           subst (λ (z : List Turn). Day is (new_state 1) no_quotes ready z ((m ++ l) ++ x) s'' q'' p'') (sym (append_assoc us ts vs))
           (subst (λ (z : List Told). Day is (new_state 1) no_quotes ready (us ++ (ts ++ vs)) z s'' q'' p'') (sym (append_assoc m l x)) all)
 
-  pub so_far_all : (n : ℕ) (s : State) (q : Quotes) (p : Pass) (r : Record) → length is ≤ n → SoFar n s q p r → (told : List Told) × Session is told s p × (whole_of r ≡ true → record_of r ≡ told)
+  pub so_far_all : (n : ℕ) (s : State) (q : Quotes) (p : Pass) (r : Record) → length is ≤ n → SoFar n s q p r → (told : List Told) × EndsWith is told s p × (whole_of r ≡ true → record_of r ≡ told)
   so_far_all n s q p r h (us, m, f, k) =
       let end : Day (drop n is) s q p [] [] s q p = subst (λ (zs : List Instruction). Day zs s q p [] [] s q p) (sym (at_drop_all (λ zs. zs) is n h)) done in
       let day : Day is (new_state 1) no_quotes ready (us ++ []) (m ++ []) s q p = f [] [] s q p end in
       (m ++ [], record { turns = us ++ []; board = q; day = day; lawful = lawful (us ++ []) (m ++ []) s p day }, λ w. k w ∙ sym (append-nil m))
 
+-- a session, whatever it ends with
+session_of : (is : List Instruction) (told : List Told) (s : State) (p : Pass) → EndsWith is told s p → Session is told
+session_of is told s p w = record { turns = w.turns; book = s; board = w.board; pass = p; day = w.day; lawful = w.lawful }
+
 -- the record of a day that was noted whole
 pub noted_whole : (is : List Instruction) (d : DayRun) (lines : List Line) → Ran is d → whole_of d.log ≡ true → map told_of lines ≡ record_of d.log → Traded is lines
-noted_whole is d lines (told, session, noted) w e =
-    (book_state d.book, stage_pass d.stage, subst (λ (z : List Told). Session is z (book_state d.book) (stage_pass d.stage)) (sym (e ∙ noted w)) session)
+noted_whole is d lines (told, ends, noted) w e =
+    subst (λ (z : List Told). Session is z) (sym (e ∙ noted w)) (session_of is told (book_state d.book) (stage_pass d.stage) ends)

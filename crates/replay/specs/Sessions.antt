@@ -17,19 +17,28 @@ use Rattle.replay.specs.declared.day.DayRun.{DayRun}
 use Rattle.replay.specs.declared.record.Line.{Line}
 
 -- the instructions followed over a new book, whose first order gets the number 1, and a table board with no line:
--- all that is told, the book and the pass at the end, the turns that they make, and the board; the laws hold for them
-pub record Session (is : List Instruction) (told : List Told) (book : State) (pass : Pass) : Type 0 where
+-- the turns that they make, all that is told, and the book, the board and the pass at the end; the laws hold for them
+pub record Session (is : List Instruction) (told : List Told) : Type 0 where
+  pub turns : List Turn
+  pub book : State
+  pub board : Quotes
+  pub pass : Pass
+  pub day : Day is (new_state 1) no_quotes ready turns told book board pass
+  pub lawful : Lawful turns told book pass
+
+abbrev pub Traded : List Instruction → List Line → Type 0
+Traded is lines = Session is (map told_of lines)
+
+-- such a session, by the book and the pass that it ends with
+pub record EndsWith (is : List Instruction) (told : List Told) (book : State) (pass : Pass) : Type 0 where
   pub turns : List Turn
   pub board : Quotes
   pub day : Day is (new_state 1) no_quotes ready turns told book board pass
   pub lawful : Lawful turns told book pass
 
-abbrev pub Traded : List Instruction → List Line → Type 0
-Traded is lines = (book : State) × (pass : Pass) × Session is (map told_of lines) book pass
-
 -- a day that has been run: the book and the pass that it ends with, and what was noted of it while there was memory
 abbrev pub Ran : List Instruction → DayRun → Type 0
-Ran is d = (told : List Told) × Session is told (book_state d.book) (stage_pass d.stage) × (whole_of d.log ≡ true → record_of d.log ≡ told)
+Ran is d = (told : List Told) × EndsWith is told (book_state d.book) (stage_pass d.stage) × (whole_of d.log ≡ true → record_of d.log ≡ told)
 
 -- the names line of the record, without its end
 unfoldable pub report_names : List ℕ
@@ -47,12 +56,10 @@ fault_lines f = fault_text f ++ 10 ∷ []
 pub record ReadsAndTrades (file text : List ℕ) : Type 0 where
   pub instructions : List Instruction
   pub told : List Told
-  pub book : State
-  pub pass : Pass
   pub short : length file ≤ most_bytes
   pub fits : Fits instructions
   pub written : file ≡ text_of instructions
-  pub session : Session instructions told book pass
+  pub session : Session instructions told
   pub printed : text ≡ lines_text told
 
 -- a file with a fault

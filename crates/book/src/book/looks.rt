@@ -21,7 +21,7 @@ impl Book {
     pub fn route_line(&self, place: usize) -> Option<Route>
         ensures { result ≡ slice_get (sheet (book_state self.now)).routes place }
     {
-        self.orders.route_line(place)
+        self.orders.listed_route(place)
     }
 
     // The number that the next order or route gets, or 0 once all are used up.

@@ -1,5 +1,6 @@
 // What is read of the open orders.
 ghost use Rattle.std.specs.Prelude.{◌≡◌, ◌<◌, ◌≤◌, length, slice_index_or};
+ghost use Rattle.std.specs.List.{slice_get};
 ghost use Rattle.ranking.specs.Place.{head_of, Found};
 ghost use Rattle.market.specs.States.{on, free, fits, route_bears};
 ghost use Rattle.market.specs.Orders.{total};
@@ -33,6 +34,23 @@ impl OpenOrders {
             Side::Buy => self.buys.first(),
             Side::Sell => self.sells.first(),
         }
+    }
+
+    // The resting order at a place of a side, or none past the end.
+    pub fn line_on(&self, side: Side, place: usize) -> Option<Resting>
+        ensures { result ≡ slice_get (on side (state_of self.now)) place }
+    {
+        match side {
+            Side::Buy => self.buys.line(place),
+            Side::Sell => self.sells.line(place),
+        }
+    }
+
+    // The open route at a place, or none past the end.
+    pub fn route_line(&self, place: usize) -> Option<Route>
+        ensures { result ≡ slice_get (state_of self.now).routes place }
+    {
+        self.routes.line(place)
     }
 
     pub fn route_count(&self) -> usize
@@ -81,7 +99,7 @@ impl OpenOrders {
     pub fn has_no_route(&self) -> bool
         ensures { result ≡ no_route (state_of self.now) }
     {
-        self.route_count() >= 64 || self.next == 0
+        self.routes.len() >= 64 || self.next == 0
     }
 
     fn is_free(&self, number: u32) -> bool

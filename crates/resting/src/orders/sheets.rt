@@ -21,8 +21,8 @@ impl OpenOrders {
         }
     }
 
-    // A line of the route list, or none past the end.
-    pub fn route_line(&self, place: usize) -> Option<Route>
+    // A line of the route list, or none past the end. Its show is at most the shares out.
+    pub fn listed_route(&self, place: usize) -> Option<Route>
         ensures { result ≡ slice_get (sheet (state_of self.now)).routes place }
     {
         if place < self.route_count() {
