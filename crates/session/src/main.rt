@@ -1,4 +1,6 @@
 // Runs an order file over one book and a table board, and prints its reports.
+#![tactic(auto)]
+
 mod input;
 
 use anyhow::anyhow;
