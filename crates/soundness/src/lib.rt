@@ -1,4 +1,6 @@
 // Every call keeps a sound book sound, and every step makes the move of its rule.
+#![tactic(auto)]
+
 ghost use Rattle.soundness.specs.Kept.{SoundKept};
 ghost use Rattle.soundness.specs.Rules.{MovesByRule};
 
