@@ -1,4 +1,6 @@
 // The laws of one call and of whole runs, each on the contract of a function.
+#![tactic(auto)]
+
 ghost use Rattle.laws.specs.Equal.{EqualAnswerAlike, EqualOrToldApart, EqualExactly};
 ghost use Rattle.laws.specs.Happens.{NothingElse};
 ghost use Rattle.laws.specs.Reached.{ReachedSound};
