@@ -1,14 +1,14 @@
 -- A state whose lists are known is sound where the same lists are.
-use Rattle.std.proofs.Common.{◌≡◌, ℕ, ◌+◌, ◌<◌, ◌≤◌, true, List, [], ◌∷◌, ◌++◌, length, get_or, take, drop, sym, refl, ap, ◌∙◌, subst, arith}
+use Rattle.std.proofs.Common.{◌≡◌, ℕ, ◌+◌, ◌<◌, ◌≤◌, true, List, length, get_or, take, drop, sym, ap, ◌∙◌, subst, arith}
 use Rattle.std.proofs.lemmas.Bool.Decides.{nat_tests}
 use Rattle.std.specs.List.{remove}
-use Rattle.ranking.specs.Place.{Spot, place, spot_at, every}
+use Rattle.ranking.specs.Place.{place, spot_at, every}
 use Rattle.market.specs.declared.types.Side.{Side}
 use Rattle.market.specs.declared.types.Resting.{Resting}
 use Rattle.market.specs.declared.types.Route.{Route}
 use Rattle.market.specs.Sides.{resting_before}
 use Rattle.market.specs.States.{State, state, on, put, with_routes}
-use Rattle.market.specs.Orders.{trimmed, total}
+use Rattle.market.specs.Orders.{total}
 use Rattle.market.specs.Sound.{Sound, resting_fair}
 use Rattle.soundness.proofs.Lists.{every_at}
 use Rattle.soundness.proofs.Keeps.{sound_out, sound_trimmed, sound_unrouted}

@@ -1,5 +1,5 @@
 -- What a trade and a cut do to one side.
-use Rattle.std.specs.Prelude.{ℕ, zero, suc, List, [], ◌∷◌, ◌++◌}
+use Rattle.std.specs.Prelude.{ℕ, zero, suc, List, [], ◌∷◌}
 use Rattle.market.specs.declared.types.Side.{Side}
 use Rattle.market.specs.declared.types.Resting.{Resting}
 use Rattle.market.specs.Orders.{less, settled, trimmed, total}

@@ -6,11 +6,11 @@ use Rattle.resting.proofs.Places.{removed_is}
 use Rattle.resting.proofs.Sounds.{sound_ended}
 use Rattle.resting.proofs.orders.OpenOrders.end_route.Goals as goal
 
-pub invariant-of-self : goal.invariant-of-self
-invariant-of-self c =
+pub invariant_of-self : goal.invariant_of-self
+invariant_of-self c =
     let b = c.args.self.now in
     let e = c.remove.ensures in
-    ((b.room.0, b.room.1, e.most ∙ b.room.2), (sound_ended c.args.place c.remove.result (state_of b) _ c.requires e.lines b.sound, tt))
+    record { room = (b.room.0, b.room.1, e.most ∙ b.room.2); sound = sound_ended c.args.place c.remove.result (state_of b) _ c.requires e.lines b.sound }
 
 pub returns : goal.returns
 returns c =

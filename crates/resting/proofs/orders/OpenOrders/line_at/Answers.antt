@@ -1,4 +1,4 @@
-use Rattle.std.proofs.Common.{◌≡◌, ◌<◌, length, get_or, sym, ap, ◌∙◌, subst}
+use Rattle.std.proofs.Common.{◌≡◌, ◌<◌, length, get_or, sym, subst}
 use Rattle.ranking.specs.Lists.{lines_of}
 use Rattle.market.specs.declared.types.Side.{Side}
 use Rattle.market.specs.declared.types.Resting.{Resting}
@@ -13,8 +13,8 @@ returns-in-Buy c =
     let i = c.args.place in
     let h : i < length (lines_of b.buys) = subst (λ (d : Side). i < length (on d (state_of b))) c.in-Buy.is c.requires in
     record {
-      value = subst (λ (d : Side). (x : Resting) → c.line-at.result ≡ get_or (on d (state_of b)) i x) (sym c.in-Buy.is) c.line-at.ensures;
-      few = few_at b.next (lines_of b.buys) i c.line-at.result h (c.line-at.ensures _) b.sound.1.0;
+      value = subst (λ (d : Side). (x : Resting) → c.line_at.result ≡ get_or (on d (state_of b)) i x) (sym c.in-Buy.is) c.line_at.ensures;
+      few = few_at b.next (lines_of b.buys) i c.line_at.result h (c.line_at.ensures _) b.sound.1.0;
     }
 
 pub returns-in-Sell : goal.returns-in-Sell
@@ -23,6 +23,6 @@ returns-in-Sell c =
     let i = c.args.place in
     let h : i < length (lines_of b.sells) = subst (λ (d : Side). i < length (on d (state_of b))) c.in-Sell.is c.requires in
     record {
-      value = subst (λ (d : Side). (x : Resting) → c.line-at-in-Sell.result ≡ get_or (on d (state_of b)) i x) (sym c.in-Sell.is) c.line-at-in-Sell.ensures;
-      few = few_at b.next (lines_of b.sells) i c.line-at-in-Sell.result h (c.line-at-in-Sell.ensures _) b.sound.1.1;
+      value = subst (λ (d : Side). (x : Resting) → c.line_at-in-Sell.result ≡ get_or (on d (state_of b)) i x) (sym c.in-Sell.is) c.line_at-in-Sell.ensures;
+      few = few_at b.next (lines_of b.sells) i c.line_at-in-Sell.result h (c.line_at-in-Sell.ensures _) b.sound.1.1;
     }

@@ -5,7 +5,7 @@ use Rattle.resting.specs.Orders.{state_of}
 use Rattle.resting.proofs.Sounds.{routed_as}
 use Rattle.resting.proofs.orders.OpenOrders.take_number.Goals as goal
 
-pub invariant-of-self : goal.invariant-of-self
-invariant-of-self c =
+pub invariant_of-self : goal.invariant_of-self
+invariant_of-self c =
     let b = c.args.self.now in
-    (b.room, (routed_as (lines_of b.buys) (lines_of b.sells) _ _ _ _ refl c.number-after-self.ensures (sound_numbered (state_of b) c.requires b.sound), tt))
+    record { room = b.room; sound = routed_as (lines_of b.buys) (lines_of b.sells) _ _ _ _ refl c.number_after-self.ensures (sound_numbered (state_of b) c.requires b.sound) }

@@ -10,19 +10,19 @@ use Rattle.resting.proofs.Places.{removed_is}
 use Rattle.resting.proofs.Sounds.{sound_removed}
 use Rattle.resting.proofs.orders.OpenOrders.take_out.Goals as goal
 
-pub invariant-of-self : goal.invariant-of-self
-invariant-of-self c =
+pub invariant_of-self : goal.invariant_of-self
+invariant_of-self c =
     let b = c.args.self.now in
     let e = c.remove.ensures in
     let h : c.args.place < length (lines_of b.buys) = subst (λ (d : Side). c.args.place < length (on d (state_of b))) c.in-Buy.is c.requires in
-    ((e.most ∙ b.room.0, b.room.1, b.room.2), (sound_removed Buy c.args.place c.remove.result (state_of b) _ h e.lines b.sound, tt))
+    record { room = (e.most ∙ b.room.0, b.room.1, b.room.2); sound = sound_removed Buy c.args.place c.remove.result (state_of b) _ h e.lines b.sound }
 
-pub invariant-of-self-in-Sell : goal.invariant-of-self-in-Sell
-invariant-of-self-in-Sell c =
+pub invariant_of-self-in-Sell : goal.invariant_of-self-in-Sell
+invariant_of-self-in-Sell c =
     let b = c.args.self.now in
     let e = c.remove-in-Sell.ensures in
     let h : c.args.place < length (lines_of b.sells) = subst (λ (d : Side). c.args.place < length (on d (state_of b))) c.in-Sell.is c.requires in
-    ((b.room.0, e.most ∙ b.room.1, b.room.2), (sound_removed Sell c.args.place c.remove-in-Sell.result (state_of b) _ h e.lines b.sound, tt))
+    record { room = (b.room.0, e.most ∙ b.room.1, b.room.2); sound = sound_removed Sell c.args.place c.remove-in-Sell.result (state_of b) _ h e.lines b.sound }
 
 pub returns-in-Buy : goal.returns-in-Buy
 returns-in-Buy c =

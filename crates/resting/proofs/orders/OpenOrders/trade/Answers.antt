@@ -5,14 +5,14 @@ use Rattle.resting.specs.Orders.{state_of}
 use Rattle.resting.proofs.Sounds.{swapped}
 use Rattle.resting.proofs.orders.OpenOrders.trade.Goals as goal
 
-pub invariant-of-self : goal.invariant-of-self
-invariant-of-self c =
+pub invariant_of-self : goal.invariant_of-self
+invariant_of-self c =
     let b = c.args.self.now in
-    let e = c.trade-first.ensures in
-    ((e.most ∙ b.room.0, b.room.1, b.room.2), (swapped Buy (state_of b) _ _ e.lines (sound_traded Buy c.args.k (state_of b) b.sound), tt))
+    let e = c.trade_first.ensures in
+    record { room = (e.most ∙ b.room.0, b.room.1, b.room.2); sound = swapped Buy (state_of b) _ _ e.lines (sound_traded Buy c.args.k (state_of b) b.sound) }
 
-pub invariant-of-self-in-Sell : goal.invariant-of-self-in-Sell
-invariant-of-self-in-Sell c =
+pub invariant_of-self-in-Sell : goal.invariant_of-self-in-Sell
+invariant_of-self-in-Sell c =
     let b = c.args.self.now in
-    let e = c.trade-first-in-Sell.ensures in
-    ((b.room.0, e.most ∙ b.room.1, b.room.2), (swapped Sell (state_of b) _ _ e.lines (sound_traded Sell c.args.k (state_of b) b.sound), tt))
+    let e = c.trade_first-in-Sell.ensures in
+    record { room = (b.room.0, e.most ∙ b.room.1, b.room.2); sound = swapped Sell (state_of b) _ _ e.lines (sound_traded Sell c.args.k (state_of b) b.sound) }
