@@ -1,10 +1,10 @@
 -- The reader's moves, by its ways out of a step.
-use Rattle.std.proofs.Common.{◌≡◌, ℕ, ◌+◌, ◌<◌, ◌⊎◌, List, [], ◌∷◌, ◌++◌, length, IsErrAnd, Some, None, Ok, Err, Option, Result, sym, refl, ap, ◌∙◌, subst, inl, inr, arith, Bor}
+use Rattle.std.proofs.Common.{◌≡◌, ℕ, ◌+◌, ◌<◌, List, [], ◌∷◌, ◌++◌, length, IsErrAnd, Some, None, Ok, Err, Option, Result, sym, refl, ap, ◌∙◌, subst, inl, inr, arith, Bor}
 use Rattle.std.proofs.lemmas.List.{append_assoc, length-append}
 use Rattle.std.proofs.lemmas.Result.{err_from_is_err_and}
 use Rattle.order_file.specs.Faults.{bad_line, no_names}
 use Rattle.order_file.specs.Instructions.{written, Fit}
-use Rattle.order_file.specs.Lines.{Lacks, Accepts, Faults}
+use Rattle.order_file.specs.Lines.{Faults}
 use Rattle.order_file.specs.Files.{names, Begins, Moves}
 use Rattle.order_file.specs.declared.instructions.Instruction.{Instruction}
 use Rattle.order_file.specs.declared.faults.Fault.{Fault}

@@ -8,10 +8,9 @@ use Rattle.market.specs.declared.types.Side.TheVariants.{Buy, Sell}
 use Rattle.market.specs.declared.types.Kind.{Kind}
 use Rattle.market.specs.declared.types.Kind.TheVariants.{Limit, BookOnly, Immediate, Sweep}
 use Rattle.market.specs.declared.types.Terms.{Terms}
-use Rattle.market.specs.declared.types.Quotation.{Quotation}
 use Rattle.market.specs.Written.{side_word, kind_word}
 use Rattle.order_file.specs.Instructions.{texts, written, Fit}
-use Rattle.order_file.specs.Files.{names, lines_of, text_of, Fits, OneLineEach, OneFileEach}
+use Rattle.order_file.specs.Files.{names, lines_of, Fits, OneLineEach, OneFileEach}
 use Rattle.order_file.specs.declared.instructions.Instruction.{Instruction}
 use Rattle.order_file.specs.declared.instructions.Instruction.TheVariants.{Enter, Replace, Cut, Cancel, Reply, Quote, Close, Expire}
 use Rattle.order_file.specs.declared.instructions.Verb.{Verb}

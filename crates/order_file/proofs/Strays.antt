@@ -1,16 +1,14 @@
 -- The first field that is not as its line wants is the first that no instruction has.
-use Rattle.std.proofs.Common.{◌≡◌, ℕ, zero, suc, ◌+◌, ◌^◌, ◌<◌, ◌≤◌, Bool, true, false, cond, eqb, ◌⊎◌, List, [], ◌∷◌, ◌++◌, map, length, get_or, take, Ok, Err, codes, decimal, Result, sym, refl, ap, ◌∙◌, subst, inl, inr, add-one, arith}
+use Rattle.std.proofs.Common.{◌≡◌, ℕ, suc, ◌+◌, ◌^◌, ◌<◌, cond, eqb, ◌⊎◌, List, [], ◌∷◌, map, length, get_or, take, Ok, Err, Result, sym, refl, ap, ◌∙◌, subst, inl, inr, add-one, arith}
 use Rattle.market.specs.declared.types.Side.{Side}
-use Rattle.market.specs.declared.types.Side.TheVariants.{Buy, Sell}
+use Rattle.market.specs.declared.types.Side.TheVariants.{Buy}
 use Rattle.market.specs.declared.types.Kind.{Kind}
-use Rattle.market.specs.declared.types.Kind.TheVariants.{Limit, BookOnly, Immediate, Sweep}
-use Rattle.market.specs.declared.types.Terms.{Terms}
-use Rattle.market.specs.declared.types.Quotation.{Quotation}
-use Rattle.market.specs.Written.{Cell, word, digits, blank, shown, dash, spaced, side_word, kind_word}
+use Rattle.market.specs.declared.types.Kind.TheVariants.{Limit}
+use Rattle.market.specs.Written.{Cell, word, digits, blank, shown, spaced, side_word, kind_word}
 use Rattle.order_file.specs.Faults.{bad_line}
-use Rattle.order_file.specs.Instructions.{instruction_verb, verb_word, values_of, cells_of, texts, written, Narrow, Fit}
+use Rattle.order_file.specs.Instructions.{instruction_verb, verb_word, values_of, cells_of, texts, written, Fit}
 use Rattle.order_file.specs.Fields.{Want, a_verb, a_side, a_kind, a_number, a_blank, Value, Writes, Good, cause_of, text, Blamed}
-use Rattle.order_file.specs.Lines.{field_count, wants, Lacks, Plain, cut, Placed, Amiss, Taken, Accepts, blame, Astray, Faults}
+use Rattle.order_file.specs.Lines.{field_count, wants, Plain, cut, Placed, Amiss, Taken, Accepts, blame, Astray, Faults}
 use Rattle.order_file.specs.declared.instructions.Instruction.{Instruction}
 use Rattle.order_file.specs.declared.instructions.Instruction.TheVariants.{Enter, Replace, Cut, Cancel, Reply, Quote, Close, Expire}
 use Rattle.order_file.specs.declared.instructions.Verb.{Verb}
@@ -21,7 +19,7 @@ use Rattle.order_file.specs.declared.fields.Place.{Place}
 use Rattle.order_file.specs.declared.fields.Part.{Part}
 use Rattle.order_file.proofs.Verdicts.{good, good_value}
 use Rattle.order_file.proofs.Cuts.{cut_spaced, spaced_cut}
-use Rattle.order_file.proofs.Words.{Free, free, lacks, number_free, side_free, kind_free, verb_free, dash_free}
+use Rattle.order_file.proofs.Words.{Free, lacks, number_free, side_free, kind_free, verb_free, dash_free}
 
 -- a cell that a want admits
 abbrev pub Meets : Want → Cell → Type 0

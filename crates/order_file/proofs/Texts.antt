@@ -1,7 +1,7 @@
 -- What a file that writes instructions looks like, line by line.
-use Rattle.std.proofs.Common.{◌≡◌, ℕ, ◌+◌, ◌<◌, ◌≤◌, ◌⊎◌, List, [], ◌∷◌, ◌++◌, map, length, get_or, take, Err, sym, refl, ap, ◌∙◌, subst, inl, inr, arith}
+use Rattle.std.proofs.Common.{◌≡◌, ℕ, ◌+◌, ◌<◌, ◌≤◌, List, [], ◌∷◌, ◌++◌, map, length, get_or, take, Err, sym, refl, ap, ◌∙◌, subst, inl, inr, arith}
 use Rattle.std.proofs.lemmas.List.{append_assoc, append_cancel_left, length-append, flat_map_more, take_more}
-use Rattle.market.specs.Written.{Cell, shown, spaced, spaced_after}
+use Rattle.market.specs.Written.{Cell, shown, spaced_after}
 use Rattle.order_file.specs.Instructions.{instruction_verb, verb_word, values_of, texts, written, Fit}
 use Rattle.order_file.specs.Fields.{Want}
 use Rattle.order_file.specs.Lines.{field_count, wants, cut, Faults}

@@ -1,8 +1,8 @@
 -- From what a part shows to the verdict on it.
-use Rattle.std.proofs.Common.{◌≡◌, ℕ, List, Ok, Err, sym, refl, ap, ◌∙◌, subst, Bor}
+use Rattle.std.proofs.Common.{◌≡◌, ℕ, List, Ok, Err, sym, ap, ◌∙◌, subst, Bor}
 use Rattle.market.specs.Written.{dash}
 use Rattle.order_file.specs.Faults.{bad_field}
-use Rattle.order_file.specs.Fields.{Want, a_verb, a_side, a_kind, a_number, a_blank, Value, Writes, text, Shows, Good, cause_of, Judged}
+use Rattle.order_file.specs.Fields.{Want, a_number, Value, Writes, text, Shows, Good, cause_of, Judged}
 use Rattle.order_file.specs.declared.faults.Cause.TheVariants.{Misused}
 use Rattle.order_file.specs.declared.faults.Fault.{Fault}
 use Rattle.order_file.specs.declared.fields.Place.{Place}

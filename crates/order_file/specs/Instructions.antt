@@ -1,7 +1,5 @@
 -- How an instruction is written: the fields of its line.
 use Rattle.std.specs.Prelude.{ℕ, ◌^◌, ◌<◌, List, [], ◌∷◌, map, codes}
-use Rattle.market.specs.declared.types.Terms.{Terms}
-use Rattle.market.specs.declared.types.Quotation.{Quotation}
 use Rattle.market.specs.Written.{Cell, word, digits, blank, shown, line_of, side_word, kind_word}
 use Rattle.order_file.specs.declared.instructions.Instruction.{Instruction}
 use Rattle.order_file.specs.declared.instructions.Instruction.TheVariants.{Enter, Replace, Cut, Cancel, Reply, Quote, Close, Expire}

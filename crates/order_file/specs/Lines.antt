@@ -1,5 +1,5 @@
 -- A line of values: its fields, what each kind of line wants of them, and what is wrong with a line that writes no instruction.
-use Rattle.std.specs.Prelude.{◌≡◌, ℕ, ◌+◌, ◌<◌, cond, ◌⊎◌, List, [], ◌∷◌, ◌++◌, map, length, take, Some, None, Ok, Err, Option, Result, ◌==◌, ◌≢◌, slice_index, slice_index_or}
+use Rattle.std.specs.Prelude.{◌≡◌, ℕ, ◌+◌, ◌<◌, cond, ◌⊎◌, List, [], ◌∷◌, map, length, take, Some, None, Ok, Err, Option, Result, ◌==◌, ◌≢◌, slice_index, slice_index_or}
 use Rattle.std.specs.Borrow.{Bor}
 use Rattle.market.specs.declared.types.Terms.{Terms}
 use Rattle.market.specs.Written.{Cell, word, digits, blank, dash, shown, spaced, kind_word}
@@ -12,7 +12,6 @@ use Rattle.order_file.specs.declared.instructions.Verb.TheVariants.{Enter, Repla
 use Rattle.order_file.specs.declared.faults.Cause.{Cause}
 use Rattle.order_file.specs.declared.faults.Cause.TheVariants.{WrongWord, NotNumber, Misused}
 use Rattle.order_file.specs.declared.faults.Fault.{Fault}
-use Rattle.order_file.specs.declared.fields.Place.{Place}
 use Rattle.order_file.specs.declared.fields.Part.{Part}
 use Rattle.order_file.specs.declared.lines.Row.{Row}
 

@@ -1,4 +1,6 @@
 // The order file: its instructions, its reader, its writer and its faults.
+#![tactic(auto)]
+
 pub mod faults;
 mod fields;
 pub mod instructions;

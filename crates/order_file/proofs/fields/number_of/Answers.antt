@@ -1,7 +1,7 @@
-use Rattle.std.proofs.Common.{◌≡◌, ℕ, ◌+◌, ◌-◌, ◌*◌, ◌^◌, ◌<◌, ◌≤◌, length, get_or, take, drop, decimal, sym, refl, ap, ◌∙◌, subst, arith, rules}
+use Rattle.std.proofs.Common.{◌≡◌, ◌+◌, ◌^◌, ◌<◌, length, get_or, take, decimal, sym, ap, ◌∙◌, subst, arith}
 use Rattle.std.specs.Str.Parse.{digits_value, AllDigits}
 use Rattle.std.proofs.lemmas.List.{take_all}
-use Rattle.order_file.proofs.Numbers.{written, empty_not, zero_not, other_not, large_not, Longer, longer}
+use Rattle.order_file.proofs.Numbers.{written, empty_not, zero_not, other_not, large_not, longer}
 use Rattle.order_file.proofs.fields.number_of.Goals as goal
 use Rattle.order_file.proofs.fields.number_of.Goals.{then-b-lt48-via-then-b-lt48, then-b-lt48-via-else-b-lt48+then-b-gt57, else-bytes-gt1-via-then-bytes-gt1+else-bytes-eq48, else-bytes-gt1-via-else-bytes-gt1}
 
@@ -15,8 +15,8 @@ pub returns-then-b-lt48 : goal.returns-then-b-lt48
 returns-then-b-lt48 c = other_not c.args.bytes.now c.loop-b.b-index c.loop-b-test.true (λ h.
     elim c.then-b-lt48.branch [ then-b-lt48-via-then-b-lt48 w ↦ omega arith | then-b-lt48-via-else-b-lt48+then-b-gt57 w ↦ omega arith ])
 
-pub returns-then-more-gt-LARGEST-NUMBER : goal.returns-then-more-gt-LARGEST-NUMBER
-returns-then-more-gt-LARGEST-NUMBER c =
+pub returns-then-more-gt-LARGEST_NUMBER : goal.returns-then-more-gt-LARGEST_NUMBER
+returns-then-more-gt-LARGEST_NUMBER c =
     let g = longer c.args.bytes.now c.loop-b.b-index c.loop-b.value c.loop-b-test.true c.loop-b.invariant.0 c.loop-b.invariant.2 c.if-b-lt48.false c.if-b-gt57.false in
     large_not c.args.bytes.now (c.loop-b.b-index + 1) (omega arith)
 

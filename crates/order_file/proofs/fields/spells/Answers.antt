@@ -5,5 +5,5 @@ use Rattle.std.proofs.lemmas.Bool.Decides.{Decides-eqb}
 
 pub returns : goal.returns
 returns c =
-    subst (λ (x : List ℕ). Decides c.eq.result (c.args.bytes.now ≡ x)) c.as-bytes.ensures.value
-    (slice_eq-Decides Decides-eqb c.args.bytes.now c.as-bytes.result.now c.eq.result c.eq.ensures)
+    subst (λ (x : List ℕ). Decides c.eq.result (c.args.bytes.now ≡ x)) c.as_bytes.ensures.value
+    (slice_eq-Decides Decides-eqb c.args.bytes.now c.as_bytes.result.now c.eq.result c.eq.ensures)

@@ -19,5 +19,5 @@ returns-in-Some-head-8 c = (
     ap length c.in-Some-head-7.ensures,
     ap length c.in-Some-head-8.ensures,
   )),
-  c.of-line-in-Some-head-8.ensures,
+  c.of_line-in-Some-head-8.ensures,
 )

@@ -5,30 +5,30 @@ use Rattle.order_file.specs.Lines.{term_wants, term_parts}
 use Rattle.order_file.proofs.Wants.{front, after}
 use Rattle.order_file.proofs.lines.replace.Goals as goal
 
-pub returns-in-err-blank : goal.returns-in-err-blank
-returns-in-err-blank c =
-    let r = err_from_is_err_and c.from-residual.result c.from-residual.ensures.1 in
-    rw (r.1, r.2) (inl c.in-err-blank.ensures)
+pub returns-in_err-blank : goal.returns-in_err-blank
+returns-in_err-blank c =
+    let r = err_from_is_err_and c.from_residual.result c.from_residual.ensures.1 in
+    rw (r.1, r.2) (inl c.in_err-blank.ensures)
 
-pub returns-in-err-terms : goal.returns-in-err-terms
-returns-in-err-terms c =
-    let r = err_from_is_err_and c.from-residual-in-err-terms.result c.from-residual-in-err-terms.ensures.1 in
+pub returns-in_err-terms : goal.returns-in_err-terms
+returns-in_err-terms c =
+    let r = err_from_is_err_and c.from_residual-in_err-terms.result c.from_residual-in_err-terms.ensures.1 in
     let row = c.args.row.now in
-    let a = front term_wants (a_number ∷ a_blank ∷ []) (term_parts row) (row.number ∷ row.venue ∷ []) _ c.in-err-terms.ensures in
-    rw (r.1, r.2) (inr (c.in-ok-blank.ensures.1, a))
+    let a = front term_wants (a_number ∷ a_blank ∷ []) (term_parts row) (row.number ∷ row.venue ∷ []) _ c.in_err-terms.ensures in
+    rw (r.1, r.2) (inr (c.in_ok-blank.ensures.1, a))
 
-pub returns-in-err-number : goal.returns-in-err-number
-returns-in-err-number c =
-    let r = err_from_is_err_and c.from-residual-in-err-number.result c.from-residual-in-err-number.ensures.1 in
+pub returns-in_err-number : goal.returns-in_err-number
+returns-in_err-number c =
+    let r = err_from_is_err_and c.from_residual-in_err-number.result c.from_residual-in_err-number.ensures.1 in
     let row = c.args.row.now in
-    let a = after term_wants (a_number ∷ a_blank ∷ []) (term_parts row) (row.number ∷ row.venue ∷ []) _ c.in-ok-terms.ensures.2
-    (inl c.in-err-number.ensures) in
-    rw (r.1, r.2) (inr (c.in-ok-blank.ensures.1, a))
+    let a = after term_wants (a_number ∷ a_blank ∷ []) (term_parts row) (row.number ∷ row.venue ∷ []) _ c.in_ok-terms.ensures.2
+    (inl c.in_err-number.ensures) in
+    rw (r.1, r.2) (inr (c.in_ok-blank.ensures.1, a))
 
-pub returns-in-err-blank-2 : goal.returns-in-err-blank-2
-returns-in-err-blank-2 c =
-    let r = err_from_is_err_and c.from-residual-in-err-blank-2.result c.from-residual-in-err-blank-2.ensures.1 in
+pub returns-in_err-blank-2 : goal.returns-in_err-blank-2
+returns-in_err-blank-2 c =
+    let r = err_from_is_err_and c.from_residual-in_err-blank-2.result c.from_residual-in_err-blank-2.ensures.1 in
     let row = c.args.row.now in
-    let a = after term_wants (a_number ∷ a_blank ∷ []) (term_parts row) (row.number ∷ row.venue ∷ []) _ c.in-ok-terms.ensures.2
-    (inr (c.in-ok-number.ensures.1, inl c.in-err-blank-2.ensures)) in
-    rw (r.1, r.2) (inr (c.in-ok-blank.ensures.1, a))
+    let a = after term_wants (a_number ∷ a_blank ∷ []) (term_parts row) (row.number ∷ row.venue ∷ []) _ c.in_ok-terms.ensures.2
+    (inr (c.in_ok-number.ensures.1, inl c.in_err-blank-2.ensures)) in
+    rw (r.1, r.2) (inr (c.in_ok-blank.ensures.1, a))

@@ -3,30 +3,30 @@ use Rattle.std.proofs.lemmas.Result.{err_from_is_err_and}
 use Rattle.order_file.proofs.Wants.{also}
 use Rattle.order_file.proofs.lines.terms.Goals as goal
 
-pub returns-in-err-price : goal.returns-in-err-price
-returns-in-err-price c =
-    let r = err_from_is_err_and c.from-residual.result c.from-residual.ensures.1 in
-    rw (r.1, r.2) (inl c.in-err-price.ensures)
+pub returns-in_err-price : goal.returns-in_err-price
+returns-in_err-price c =
+    let r = err_from_is_err_and c.from_residual.result c.from_residual.ensures.1 in
+    rw (r.1, r.2) (inl c.in_err-price.ensures)
 
-pub returns-in-err-size : goal.returns-in-err-size
-returns-in-err-size c =
-    let r = err_from_is_err_and c.from-residual-in-err-size.result c.from-residual-in-err-size.ensures.1 in
-    rw (r.1, r.2) (inr (c.in-ok-price.ensures.1, inl c.in-err-size.ensures))
+pub returns-in_err-size : goal.returns-in_err-size
+returns-in_err-size c =
+    let r = err_from_is_err_and c.from_residual-in_err-size.result c.from_residual-in_err-size.ensures.1 in
+    rw (r.1, r.2) (inr (c.in_ok-price.ensures.1, inl c.in_err-size.ensures))
 
-pub returns-in-err-show : goal.returns-in-err-show
-returns-in-err-show c =
-    let r = err_from_is_err_and c.from-residual-in-err-show.result c.from-residual-in-err-show.ensures.1 in
-    rw (r.1, r.2) (inr (c.in-ok-price.ensures.1, inr (c.in-ok-size.ensures.1, inl c.in-err-show.ensures)))
+pub returns-in_err-show : goal.returns-in_err-show
+returns-in_err-show c =
+    let r = err_from_is_err_and c.from_residual-in_err-show.result c.from_residual-in_err-show.ensures.1 in
+    rw (r.1, r.2) (inr (c.in_ok-price.ensures.1, inr (c.in_ok-size.ensures.1, inl c.in_err-show.ensures)))
 
-pub returns-in-err-kind : goal.returns-in-err-kind
-returns-in-err-kind c =
-    let r = err_from_is_err_and c.from-residual-in-err-kind.result c.from-residual-in-err-kind.ensures.1 in
-    rw (r.1, r.2) (inr (c.in-ok-price.ensures.1, inr (c.in-ok-size.ensures.1, inr (c.in-ok-show.ensures.1, inl c.in-err-kind.ensures))))
+pub returns-in_err-kind : goal.returns-in_err-kind
+returns-in_err-kind c =
+    let r = err_from_is_err_and c.from_residual-in_err-kind.result c.from_residual-in_err-kind.ensures.1 in
+    rw (r.1, r.2) (inr (c.in_ok-price.ensures.1, inr (c.in_ok-size.ensures.1, inr (c.in_ok-show.ensures.1, inl c.in_err-kind.ensures))))
 
-pub returns-in-err-user : goal.returns-in-err-user
-returns-in-err-user c =
-    let r = err_from_is_err_and c.from-residual-in-err-user.result c.from-residual-in-err-user.ensures.1 in
-    rw (r.1, r.2) (inr (c.in-ok-price.ensures.1, inr (c.in-ok-size.ensures.1, inr (c.in-ok-show.ensures.1, inr (c.in-ok-kind.ensures.1, inl c.in-err-user.ensures)))))
+pub returns-in_err-user : goal.returns-in_err-user
+returns-in_err-user c =
+    let r = err_from_is_err_and c.from_residual-in_err-user.result c.from_residual-in_err-user.ensures.1 in
+    rw (r.1, r.2) (inr (c.in_ok-price.ensures.1, inr (c.in_ok-size.ensures.1, inr (c.in_ok-show.ensures.1, inr (c.in_ok-kind.ensures.1, inl c.in_err-user.ensures)))))
 
 pub returns : goal.returns
-returns c = ((c.in-ok-price.ensures.0.0, (c.in-ok-size.ensures.0.0, (c.in-ok-show.ensures.0.0, (c.in-ok-user.ensures.0.0, tt)))), also c.in-ok-price.ensures.0.1 (also c.in-ok-size.ensures.0.1 (also c.in-ok-show.ensures.0.1 (also c.in-ok-kind.ensures.0 (also c.in-ok-user.ensures.0.1 (refl))))), (c.in-ok-price.ensures.1, (c.in-ok-size.ensures.1, (c.in-ok-show.ensures.1, (c.in-ok-kind.ensures.1, (c.in-ok-user.ensures.1, tt))))))
+returns c = ((c.in_ok-price.ensures.0.0, (c.in_ok-size.ensures.0.0, (c.in_ok-show.ensures.0.0, (c.in_ok-user.ensures.0.0, tt)))), also c.in_ok-price.ensures.0.1 (also c.in_ok-size.ensures.0.1 (also c.in_ok-show.ensures.0.1 (also c.in_ok-kind.ensures.0 (also c.in_ok-user.ensures.0.1 (refl))))), (c.in_ok-price.ensures.1, (c.in_ok-size.ensures.1, (c.in_ok-show.ensures.1, (c.in_ok-kind.ensures.1, (c.in_ok-user.ensures.1, tt))))))

@@ -1,4 +1,4 @@
-use Rattle.std.proofs.Common.{◌≡◌, ℕ, List, [], ◌∷◌, ◌++◌, get_or, ap, ◌∙◌}
+use Rattle.std.proofs.Common.{ℕ, List, [], ◌∷◌, ◌++◌, get_or, ap, ◌∙◌}
 use Rattle.std.proofs.lemmas.List.{take_all}
 use Rattle.market.specs.declared.types.Side.TheVariants.{Buy}
 use Rattle.market.specs.declared.types.Kind.TheVariants.{Limit}
@@ -11,7 +11,7 @@ use Rattle.order_file.proofs.writer.render.Goals as goal
 
 pub loop-instruction-init : goal.loop-instruction-init
 unfolding names
-loop-instruction-init c = c.in-ok-out.ensures.ok
+loop-instruction-init c = c.in_ok-out.ensures.ok
 
 -- the default of the reading of an element
 abbrev unread : Instruction

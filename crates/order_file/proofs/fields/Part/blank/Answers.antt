@@ -8,9 +8,9 @@ returns-in-Blank c = taken a_blank c.args.self tt c.in-Blank.ensures.2
 pub returns-in-Word : goal.returns-in-Word
 returns-in-Word c =
     let s = c.in-Word.ensures in
-    wrong a_blank c.args.self c.in-Word.place c.of-field.result s.1 s.2 (λ x h. s.2 h) c.of-field.ensures
+    wrong a_blank c.args.self c.in-Word.place c.of_field.result s.1 s.2 (λ x h. s.2 h) c.of_field.ensures
 
 pub returns-in-Number : goal.returns-in-Number
 returns-in-Number c =
     let s = c.in-Number.ensures in
-    wrong a_blank c.args.self c.in-Number.place c.of-field-in-Number.result s.1 s.2 (λ x h. s.2 h) c.of-field-in-Number.ensures
+    wrong a_blank c.args.self c.in-Number.place c.of_field-in-Number.result s.1 s.2 (λ x h. s.2 h) c.of_field-in-Number.ensures

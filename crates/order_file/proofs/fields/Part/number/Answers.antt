@@ -9,9 +9,9 @@ returns-in-Number c = taken a_number c.args.self c.in-Number.n c.in-Number.ensur
 pub returns-in-Word : goal.returns-in-Word
 returns-in-Word c =
     let s = c.in-Word.ensures in
-    wrong a_number c.args.self c.in-Word.place c.of-field.result s.1 s.2 s.3 c.of-field.ensures
+    wrong a_number c.args.self c.in-Word.place c.of_field.result s.1 s.2 s.3 c.of_field.ensures
 
 pub returns-in-Blank : goal.returns-in-Blank
 returns-in-Blank c =
-    wrong_blank a_number c.args.self c.in-Blank.field-0 c.in-Blank.place c.of-field-in-Blank.result c.in-Blank.ensures
-    number_not_dash c.of-field-in-Blank.ensures
+    wrong_blank a_number c.args.self c.in-Blank.field-0 c.in-Blank.place c.of_field-in-Blank.result c.in-Blank.ensures
+    number_not_dash c.of_field-in-Blank.ensures
