@@ -1,4 +1,6 @@
 // A board of away quotations, known by its two lists alone.
+#![tactic(auto)]
+
 ghost use Rattle.std.specs.Prelude.{◌≡◌, ◌^◌, ◌<◌, true, List, length};
 ghost use Rattle.std.specs.List.{slice_get};
 ghost use Rattle.ranking.specs.Place.{in_rank, every};

@@ -10,14 +10,14 @@ use market::types::{Quotation, Side};
 
 // The first line of a side.
 pub fn first_line<B: Board>(board: &B, side: Side) -> Option<Quotation>
-    ensures { result ≡ head_of (quoted side (quotes_of (bids board.now) (offers board.now))) }
+    ensures { result ≡ head_of (quoted side (quotes_of (B.bids board.now) (B.offers board.now))) }
 {
     board.line(side, 0)
 }
 
 // Whether a line is better than this price: the lines stand in rank, so the first says it.
 pub fn first_better<B: Board>(board: &B, side: Side, price: u32) -> bool
-    ensures { result ≡ any_better side price (quoted side (quotes_of (bids board.now) (offers board.now))) }
+    ensures { result ≡ any_better side price (quoted side (quotes_of (B.bids board.now) (B.offers board.now))) }
 {
     match first_line(board, side) {
         None => false,
@@ -27,7 +27,7 @@ pub fn first_better<B: Board>(board: &B, side: Side, price: u32) -> bool
 
 // The line of a venue, if it has one on this side.
 pub fn line_of<B: Board>(board: &B, side: Side, venue: u32) -> Option<Quotation>
-    ensures { result ≡ of_venue venue (quoted side (quotes_of (bids board.now) (offers board.now))) }
+    ensures { result ≡ of_venue venue (quoted side (quotes_of (B.bids board.now) (B.offers board.now))) }
 {
     let mut place: usize = 0;
     while let Some(q) = board.line(side, place) {

@@ -6,11 +6,6 @@ pub returns-then-q-venue : goal.returns-then-q-venue
 returns-then-q-venue g c =
     sym (found_here c.args.venue _ c.loop-q.place c.in-Some.q (sym c.in-Some.ensures) c.if-q-venue.true c.loop-q.invariant)
 
-pub overflow-add-place : goal.overflow-add-place
-overflow-add-place g c =
-    let at = nth_in _ c.loop-q.place c.in-Some.q (sym c.in-Some.ensures) in
-    omega (arith, at, g.met.B.Board.few c.args.board.now c.args.side)
-
 pub loop-q-smaller : goal.loop-q-smaller
 loop-q-smaller g c = omega (arith, nth_in _ c.loop-q.place c.in-Some.q (sym c.in-Some.ensures))
 
@@ -19,4 +14,4 @@ loop-q-preserved g c =
     found_more c.args.venue _ c.loop-q.place c.in-Some.q (sym c.in-Some.ensures) c.if-q-venue.false c.loop-q.invariant
 
 pub returns : goal.returns
-returns g c = sym (found_none c.args.venue _ c.loop-q.place (sym c.in-default.ensures) c.loop-q.invariant)
+returns g c = sym (found_none c.args.venue _ c.loop-q.place (sym c.in_default.ensures) c.loop-q.invariant)
