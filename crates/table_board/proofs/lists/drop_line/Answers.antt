@@ -11,5 +11,5 @@ returns-in-Some c =
       most = c.remove.ensures.most;
     }
 
-pub returns-in-default : goal.returns-in-default
-returns-in-default c = record { lines = sym (none_dropped c.args.venue (lines_of c.args.lines.now) c.in-default.ensures); most = refl }
+pub returns-in_default : goal.returns-in_default
+returns-in_default c = record { lines = sym (none_dropped c.args.venue (lines_of c.args.lines.now) c.in_default.ensures); most = refl }
