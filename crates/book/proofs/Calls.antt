@@ -1,8 +1,7 @@
 -- Each way through a call gives the outcome that the model defines.
-use Rattle.std.proofs.Common.{◌≡◌, ℕ, ◌+◌, ◌-◌, ◌<◌, ◌≤◌, Bool, true, false, cond, not, eqb, ltb, leb, List, [], ◌∷◌, ◌++◌, length, get_or, take, drop, Some, None, Option, sym, refl, ap, ◌∙◌, subst, arith}
-use Rattle.std.proofs.lemmas.Bool.Decides.{nat_tests}
+use Rattle.std.proofs.Common.{◌≡◌, ℕ, ◌+◌, ◌<◌, ◌≤◌, true, false, cond, eqb, leb, List, [], ◌∷◌, ◌++◌, get_or, take, drop, Some, None, sym, refl, ap, ◌∙◌, subst, arith}
 use Rattle.std.proofs.lemmas.Bool.{cond-true, cond-false, eq-eqb, ne_eqb, lt-ltb, le-ltb, le-leb, lt-leb}
-use Rattle.ranking.specs.Place.{Spot, locate, spot_at, Found}
+use Rattle.ranking.specs.Place.{Spot, locate}
 use Rattle.market.specs.declared.types.Side.{Side}
 use Rattle.market.specs.declared.types.Side.TheVariants.{Buy, Sell}
 use Rattle.market.specs.declared.types.Resting.{Resting}
@@ -11,13 +10,12 @@ use Rattle.market.specs.declared.types.Order.{Order}
 use Rattle.market.specs.declared.types.Terms.{Terms}
 use Rattle.market.specs.declared.types.Report.{Report}
 use Rattle.market.specs.declared.types.Reason.TheVariants.{Cancelled, Cut as Trimmed, Replaced, Expired}
-use Rattle.market.specs.declared.types.Refusal.{Refusal}
-use Rattle.market.specs.declared.types.Refusal.TheVariants.{User, NotResting, CutTooLarge, NotOut, ReplyTooLarge, NumbersUsedUp, NothingResting}
+use Rattle.market.specs.declared.types.Refusal.TheVariants.{User, NotResting, CutTooLarge, NotOut, ReplyTooLarge, NumbersUsedUp}
 use Rattle.market.specs.Legal.{legal_user}
 use Rattle.market.specs.States.{State, Quotes, numbered, route_bears, on, put}
 use Rattle.market.specs.Orders.{total, trimmed, entered, returned}
 use Rattle.market.specs.Reports.{in_report, off_report, off_hand, back_report}
-use Rattle.market.specs.Calls.{Pass, ready, ended, in_hand, Outcome, refuse, answer, checked, unless, numbers_refusal, terms_refusal, enter_refusal, cancel_refusal, cut_refusal, admit, Place, find, taken_out, changed_to, cancel_at, cancel_call, cut_at, cut_call, replace_at, replace_call, reply_at, reply_call, late_reply_at, late_reply_call, late_reports, hand_back, unrouted, expire_from, expire_call}
+use Rattle.market.specs.Calls.{ready, ended, in_hand, Outcome, refuse, answer, unless, numbers_refusal, terms_refusal, cancel_refusal, cut_refusal, admit, Place, find, taken_out, changed_to, cancel_at, cancel_call, cut_at, cut_call, replace_at, replace_call, reply_at, reply_call, late_reply_at, late_reply_call, late_reports, hand_back, unrouted, expire_from, expire_call}
 use Rattle.resting.specs.Orders.{at_place}
 use Rattle.book.specs.Outcomes.{late_list}
 use Rattle.book.specs.Expiry.{first_of_two, oldest_side}

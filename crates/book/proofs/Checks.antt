@@ -1,5 +1,5 @@
 -- What follows where a check refuses, and where none does.
-use Rattle.std.proofs.Common.{◌≡◌, ℕ, Bool, true, false, cond, not, eqb, Some, None, Option, sym, refl, ap, ◌∙◌, arith}
+use Rattle.std.proofs.Common.{◌≡◌, ℕ, cond, eqb, Some, None, Option, sym, refl, ap, ◌∙◌, arith}
 use Rattle.std.proofs.lemmas.Bool.Decides.{nat_tests}
 use Rattle.std.proofs.lemmas.Bool.{eq-eqb, ne_eqb}
 use Rattle.market.specs.declared.types.Terms.{Terms}
@@ -7,7 +7,7 @@ use Rattle.market.specs.declared.types.Call.{Call}
 use Rattle.market.specs.declared.types.Refusal.{Refusal}
 use Rattle.market.specs.declared.types.Refusal.TheVariants.{WrongPass, NumbersUsedUp}
 use Rattle.market.specs.States.{State, Quotes}
-use Rattle.market.specs.Calls.{Pass, Outcome, refuse, checked, or_else, unless, call, terms_refusal, enter_refusal, numbers_refusal}
+use Rattle.market.specs.Calls.{Pass, Outcome, refuse, checked, or_else, call, terms_refusal, enter_refusal, numbers_refusal}
 use Rattle.book.specs.Outcomes.{own_call}
 
 -- a pass of this book, and of another

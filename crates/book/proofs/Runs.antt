@@ -1,10 +1,10 @@
 -- Steps one after another, as their reports are written into the caller's list.
-use Rattle.std.proofs.Common.{◌≡◌, ℕ, zero, suc, ◌+◌, ◌-◌, ◌<◌, ◌≤◌, List, [], ◌∷◌, ◌++◌, length, take, drop, set, Some, None, Option, sym, refl, ap, ◌∙◌, subst, append_assoc, arith, length-take-le}
+use Rattle.std.proofs.Common.{◌≡◌, ℕ, suc, ◌+◌, ◌-◌, ◌<◌, ◌≤◌, List, [], ◌∷◌, ◌++◌, length, take, drop, set, Some, None, Option, sym, ap, ◌∙◌, append_assoc, arith, length-take-le}
 use Rattle.std.proofs.lemmas.List.{take_more_set, drop-set-lt, drop-drop, take-append-drop, append-nil}
 use Rattle.market.specs.declared.types.Order.{Order}
 use Rattle.market.specs.declared.types.Report.{Report}
 use Rattle.market.specs.States.{State, Quotes}
-use Rattle.market.specs.Steps.{Run, Step, step, run}
+use Rattle.market.specs.Steps.{Run, step, run}
 use Rattle.book.specs.Works.{Did, Ran}
 
 -- reports written before a run

@@ -62,7 +62,7 @@ fn take_off(o: Order, why: Reason) -> (Report, Option<Order>)
 impl Book {
     // Which rule applies first.
     fn decide<B: Board>(&self, o: Order, board: &B) -> Move
-        ensures { result ≡ move_of (book_state self.now) (quotes_of (bids board.now) (offers board.now)) o }
+        ensures { result ≡ move_of (book_state self.now) (quotes_of (B.bids board.now) (B.offers board.now)) o }
     {
         let across = o.side.across();
         let resting = self.orders.first_on(across);
@@ -106,10 +106,10 @@ impl Book {
     // The board's line is lessened, and a route is opened, by the same shares.
     fn send<B: Board>(&mut self, o: Order, q: Quotation, board: &mut B) -> (Report, Option<Order>)
         requires able { able o ≡ true }
-        requires first { Some q ≡ head_of (quoted (across_of o.side) (quotes_of (bids board.old) (offers board.old))) }
+        requires first { Some q ≡ head_of (quoted (across_of o.side) (quotes_of (B.bids board.old) (B.offers board.old))) }
         requires room { length (book_state self.old).routes < 64 }
         requires left { (book_state self.old).next ≢ 0 }
-        ensures did { Did (act (Send q) (book_state self.old) (quotes_of (bids board.old) (offers board.old)) o) (book_state self.new) (quotes_of (bids board.new) (offers board.new)) result }
+        ensures did { Did (act (Send q) (book_state self.old) (quotes_of (B.bids board.old) (B.offers board.old)) o) (book_state self.new) (quotes_of (B.bids board.new) (B.offers board.new)) result }
         ensures id { self.new.id ≡ self.old.id }
     {
         let k = o.shares.min(q.size);
@@ -135,7 +135,7 @@ impl Book {
     fn act<B: Board>(&mut self, o: Order, board: &mut B) -> (Report, Option<Order>)
         requires able { able o ≡ true }
         requires number { fits o.number (book_state self.old) ≡ true }
-        ensures did { Did (step (book_state self.old) (quotes_of (bids board.old) (offers board.old)) o) (book_state self.new) (quotes_of (bids board.new) (offers board.new)) result }
+        ensures did { Did (step (book_state self.old) (quotes_of (B.bids board.old) (B.offers board.old)) o) (book_state self.new) (quotes_of (B.bids board.new) (B.offers board.new)) result }
         ensures id { self.new.id ≡ self.old.id }
     {
         match self.decide(o, board) {
@@ -163,7 +163,7 @@ impl Book {
         pass: InHand,
         board: &mut B,
     ) -> Result<(Next, Report), (Refusal, InHand)>
-        ensures outcome { worked_as result (book_state self.new) (quotes_of (bids board.new) (offers board.new)) ≡ own_call (pass.book == self.old.id) (quotes_of (bids board.old) (offers board.old)) Work (book_state self.old) (in_hand pass.order) }
+        ensures outcome { worked_as result (book_state self.new) (quotes_of (B.bids board.new) (B.offers board.new)) ≡ own_call (pass.book == self.old.id) (quotes_of (B.bids board.old) (B.offers board.old)) Work (book_state self.old) (in_hand pass.order) }
         ensures pass { worked_book result ≡ pass.book }
         ensures id { self.new.id ≡ self.old.id }
     {
@@ -185,7 +185,7 @@ impl Book {
         board: &mut B,
         reports: &mut [Report],
     ) -> Result<(Next, usize), (Refusal, InHand)>
-        ensures works { WorksOn self.old.id pass (book_state self.old) (book_state self.new) (quotes_of (bids board.old) (offers board.old)) (quotes_of (bids board.new) (offers board.new)) reports.old reports.new result }
+        ensures works { WorksOn self.old.id pass (book_state self.old) (book_state self.new) (quotes_of (B.bids board.old) (B.offers board.old)) (quotes_of (B.bids board.new) (B.offers board.new)) reports.old reports.new result }
         ensures id { self.new.id ≡ self.old.id }
     {
         if !self.accepts(&pass) {

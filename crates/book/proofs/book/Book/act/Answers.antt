@@ -1,6 +1,5 @@
 use Rattle.std.proofs.Common.{sym}
 use Rattle.market.specs.Sides.{across_of}
-use Rattle.market.specs.States.{on}
 use Rattle.soundness.proofs.Moves.{trade_when, send_when, rest_when}
 use Rattle.book.specs.Outcomes.{book_state}
 use Rattle.book.proofs.Hands.{shown_first}

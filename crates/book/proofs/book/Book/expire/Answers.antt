@@ -10,9 +10,9 @@ pub returns-in-Some : goal.returns-in-Some
 returns-in-Some c =
     let b = c.args.self.now in
     let s = book_state b in
-    let x = c.line-at-line.result in
+    let x = c.line_at-line.result in
     record {
       outcome = λ q. own_yes c.args.pass.now.book b.id q Expire s ended _ c.if-pass-self.false
-          (expire_done c.in-Some.side s _ q x _ c.in-Some.ensures (c.line-at-line.ensures.value x) c.off-report-of.ensures c.take-out.ensures.state);
+          (expire_done c.in-Some.side s _ q x _ c.in-Some.ensures (c.line_at-line.ensures.value x) c.off_report_of.ensures c.take_out.ensures.state);
       id = refl;
     }

@@ -11,10 +11,10 @@ pub returns-then-filled-route : goal.returns-then-filled-route
 returns-then-filled-route c =
     let b = c.args.self.now in
     let s = book_state b in
-    let x = c.route-at-route.result in
+    let x = c.route_at-route.result in
     record {
       outcome = λ q. own_yes c.args.pass.now.book b.id q (Reply c.args.filled c.args.number) s ended _ c.if-pass-self.false
-          (late_large s q c.args.filled c.args.number (spot_at s.routes c.in-Some.place x) x (c.in-Some.ensures.1 x) (c.route-at-route.ensures x) c.if-filled-route.true);
+          (late_large s q c.args.filled c.args.number (spot_at s.routes c.in-Some.place x) x (c.in-Some.ensures.1 x) (c.route_at-route.ensures x) c.if-filled-route.true);
       id = refl;
     }
 
@@ -22,11 +22,11 @@ pub returns-then-route-filled : goal.returns-then-route-filled
 returns-then-route-filled c =
     let b = c.args.self.now in
     let s = book_state b in
-    let x = c.route-at-route.result in
-    let r = c.end-route.result in
+    let x = c.route_at-route.result in
+    let r = c.end_route.result in
     record {
       outcome = λ q. own_yes c.args.pass.now.book b.id q (Reply c.args.filled c.args.number) s ended _ c.if-pass-self.false
-          (late_filled s q c.args.filled c.args.number (spot_at s.routes c.in-Some.place r) x (c.in-Some.ensures.1 r) (c.route-at-route.ensures r) _ _ c.if-route-filled.true c.back-report-of-report.ensures c.end-route.ensures.state);
+          (late_filled s q c.args.filled c.args.number (spot_at s.routes c.in-Some.place r) x (c.in-Some.ensures.1 r) (c.route_at-route.ensures r) _ _ c.if-route-filled.true c.back_report_of-report.ensures c.end_route.ensures.state);
       id = refl;
     }
 
@@ -34,10 +34,10 @@ pub returns-else-route-filled : goal.returns-else-route-filled
 returns-else-route-filled c =
     let b = c.args.self.now in
     let s = book_state b in
-    let x = c.route-at-route.result in
-    let r = c.end-route.result in
+    let x = c.route_at-route.result in
+    let r = c.end_route.result in
     record {
       outcome = λ q. own_yes c.args.pass.now.book b.id q (Reply c.args.filled c.args.number) s ended _ c.if-pass-self.false
-          (late_returned s q c.args.filled c.args.number (spot_at s.routes c.in-Some.place r) x (c.in-Some.ensures.1 r) (c.route-at-route.ensures r) _ _ _ _ c.if-filled-route.false c.if-route-filled.false c.back-report-of-report.ensures c.end-route.ensures.state c.come-back.ensures c.off-hand-report.ensures);
+          (late_returned s q c.args.filled c.args.number (spot_at s.routes c.in-Some.place r) x (c.in-Some.ensures.1 r) (c.route_at-route.ensures r) _ _ _ _ c.if-filled-route.false c.if-route-filled.false c.back_report_of-report.ensures c.end_route.ensures.state c.come_back.ensures c.off_hand_report.ensures);
       id = refl;
     }

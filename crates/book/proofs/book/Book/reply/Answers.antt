@@ -12,10 +12,10 @@ pub returns-then-filled-route : goal.returns-then-filled-route
 returns-then-filled-route c =
     let b = c.args.self.now in
     let s = book_state b in
-    let x = c.route-at-route.result in
+    let x = c.route_at-route.result in
     record {
       outcome = λ q. own_yes c.args.pass.book b.id q (Reply c.args.filled c.args.number) s ready _ c.if-pass-self.false
-          (reply_large s q c.args.filled c.args.number (spot_at s.routes c.in-Some.place x) x (c.in-Some.ensures.1 x) (c.route-at-route.ensures x) c.if-filled-route.true);
+          (reply_large s q c.args.filled c.args.number (spot_at s.routes c.in-Some.place x) x (c.in-Some.ensures.1 x) (c.route_at-route.ensures x) c.if-filled-route.true);
       pass = refl;
       id = refl;
     }
@@ -24,11 +24,11 @@ pub returns-then-route-filled : goal.returns-then-route-filled
 returns-then-route-filled c =
     let b = c.args.self.now in
     let s = book_state b in
-    let x = c.route-at-route.result in
-    let r = c.end-route.result in
+    let x = c.route_at-route.result in
+    let r = c.end_route.result in
     record {
       outcome = λ q. own_yes c.args.pass.book b.id q (Reply c.args.filled c.args.number) s ready _ c.if-pass-self.false
-          (reply_filled s q c.args.filled c.args.number (spot_at s.routes c.in-Some.place r) x (c.in-Some.ensures.1 r) (c.route-at-route.ensures r) _ _ c.if-route-filled.true c.back-report-of-report.ensures c.end-route.ensures.state);
+          (reply_filled s q c.args.filled c.args.number (spot_at s.routes c.in-Some.place r) x (c.in-Some.ensures.1 r) (c.route_at-route.ensures r) _ _ c.if-route-filled.true c.back_report_of-report.ensures c.end_route.ensures.state);
       pass = refl;
       id = refl;
     }
@@ -37,17 +37,17 @@ pub returns-else-route-filled : goal.returns-else-route-filled
 returns-else-route-filled c =
     let b = c.args.self.now in
     let s = book_state b in
-    let x = c.route-at-route.result in
-    let r = c.end-route.result in
+    let x = c.route_at-route.result in
+    let r = c.end_route.result in
     record {
       outcome = λ q. own_yes c.args.pass.book b.id q (Reply c.args.filled c.args.number) s ready _ c.if-pass-self.false
-          (reply_returned s q c.args.filled c.args.number (spot_at s.routes c.in-Some.place r) x (c.in-Some.ensures.1 r) (c.route-at-route.ensures r) _ _ _ c.if-filled-route.false c.if-route-filled.false c.back-report-of-report.ensures c.end-route.ensures.state c.come-back-order.ensures);
+          (reply_returned s q c.args.filled c.args.number (spot_at s.routes c.in-Some.place r) x (c.in-Some.ensures.1 r) (c.route_at-route.ensures r) _ _ _ c.if-filled-route.false c.if-route-filled.false c.back_report_of-report.ensures c.end_route.ensures.state c.come_back-order.ensures);
       pass = refl;
       id = refl;
     }
 
-pub invariant-of-result : goal.invariant-of-result
-invariant-of-result c =
+pub invariant_of-result : goal.invariant_of-result
+invariant_of-result c =
     let b = c.args.self.now in
-    let x = c.route-at-route.result in
-    (able_back (book_state b) c.args.filled c.in-Some.place x c.come-back-order.result c.in-Some.ensures.0 (c.route-at-route.ensures x) c.if-filled-route.false c.if-route-filled.false c.come-back-order.ensures b.orders.sound, tt)
+    let x = c.route_at-route.result in
+    record { fit = able_back (book_state b) c.args.filled c.in-Some.place x c.come_back-order.result c.in-Some.ensures.0 (c.route_at-route.ensures x) c.if-filled-route.false c.if-route-filled.false c.come_back-order.ensures b.orders.sound }

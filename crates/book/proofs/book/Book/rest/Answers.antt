@@ -5,4 +5,4 @@ use Rattle.book.proofs.book.Book.rest.Goals as goal
 pub rest-requires : goal.rest-requires
 rest-requires c =
     let b = c.args.self.now in
-    record { room = c.requires.room; may = restable c.args.o c.to-rest-p.result (book_state b) c.to-rest-p.ensures c.requires.able c.requires.number c.requires.clear b.orders.sound }
+    record { room = c.requires.room; may = restable c.args.o c.to_rest-p.result (book_state b) c.to_rest-p.ensures c.requires.able c.requires.number c.requires.clear b.orders.sound }

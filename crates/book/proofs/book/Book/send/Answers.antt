@@ -1,10 +1,10 @@
-use Rattle.std.proofs.Common.{◌≡◌, min, ap, ◌∙◌, arith, rules}
+use Rattle.std.proofs.Common.{◌≡◌, min, arith, rules}
 use Rattle.market.specs.Sides.{across_of}
 use Rattle.book.proofs.Hands.{first_some, able_some, taken_as}
 use Rattle.book.proofs.book.Book.send.Goals as goal
 
-pub open-route-number-requires : goal.open-route-number-requires
-open-route-number-requires g c =
+pub open_route-number-requires : goal.open_route-number-requires
+open_route-number-requires g c =
     let z = first_some _ c.args.q c.requires.first (g.met.B.Board.legal c.args.board.now (across_of c.args.o.side)) in
     let a = able_some c.args.o c.requires.able in
     let e : c.min-k.result ≡ min c.args.o.shares c.args.q.size = search rules in
