@@ -1,4 +1,6 @@
 // Boards that stand over another board, and show only some of its lines.
+#![tactic(auto)]
+
 pub mod band;
 mod marks;
 pub mod piles;

@@ -29,7 +29,7 @@ pub fn screened_line<B: Board, S: Screen>(
     side: Side,
     place: usize,
 ) -> Option<Quotation>
-    ensures { result ≡ slice_get (those (passes screen.now) (quoted side (quotes_of (bids board.now) (offers board.now)))) place }
+    ensures { result ≡ slice_get (those (S.passes screen.now) (quoted side (quotes_of (B.bids board.now) (B.offers board.now)))) place }
 {
     let mut below: usize = 0;
     let mut left = place;
@@ -53,8 +53,8 @@ pub fn screened_take<B: Board, S: Screen>(
     venue: u32,
     shares: u32,
 ) -> Result<(), Refusal>
-    ensures shown { Taken side venue shares (quotes_of (those (passes screen.now) (bids board.old)) (those (passes screen.now) (offers board.old))) (quotes_of (those (passes screen.now) (bids board.new)) (those (passes screen.now) (offers board.new))) result }
-    ensures below { TakenBelow (passes screen.now) side venue shares (quotes_of (bids board.old) (offers board.old)) (quotes_of (bids board.new) (offers board.new)) result }
+    ensures shown { Taken side venue shares (quotes_of (those (S.passes screen.now) (B.bids board.old)) (those (S.passes screen.now) (B.offers board.old))) (quotes_of (those (S.passes screen.now) (B.bids board.new)) (those (S.passes screen.now) (B.offers board.new))) result }
+    ensures below { TakenBelow (S.passes screen.now) side venue shares (quotes_of (B.bids board.old) (B.offers board.old)) (quotes_of (B.bids board.new) (B.offers board.new)) result }
 {
     if let Some(q) = line_of(board, side, venue) {
         if screen.lets_through(q) {

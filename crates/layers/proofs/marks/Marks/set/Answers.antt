@@ -4,5 +4,5 @@ use Rattle.layers.proofs.marks.Marks.set.Goals as goal
 
 pub returns : goal.returns
 returns c =
-    let legal = sym c.if-not-is-legal-venue.ensures in
+    let legal = sym c.if-not-is_legal_venue.ensures in
     (legal, mark_set c.args.self.now.word c.args.venue legal)
