@@ -3,7 +3,7 @@ ghost use Rattle.std.specs.Prelude.{◌≡◌, IfOk};
 ghost use Rattle.ranking.specs.Lists.{lines_of};
 ghost use Rattle.market.specs.States.{no_quotes};
 ghost use Rattle.table_board.specs.Quoting.{quotation_refusal, lists_of, Quoted};
-ghost use Rattle.std.proofs.Common.{rules, arith};
+ghost use Rattle.std.proofs.Common.{rules};
 
 use super::TableBoard;
 use crate::lists::{requote, take_from};
@@ -34,13 +34,13 @@ impl Board for TableBoard {
 
     ghost offers = { λ s. lines_of s.offers };
 
-    ghost ranked = { first_of (Prim.search rules, Prim.grind (arith, Self.row.coded.inj)) };
+    ghost ranked = { Prim.search rules };
 
-    ghost legal = { first_of (Prim.search rules, Prim.grind (arith, Self.row.coded.inj)) };
+    ghost legal = { Prim.search rules };
 
-    ghost venues = { first_of (Prim.search rules, Prim.grind (arith, Self.row.coded.inj)) };
+    ghost venues = { Prim.search rules };
 
-    ghost few = { first_of (Prim.search rules, Prim.grind (arith, Self.row.coded.inj)) };
+    ghost few = { Prim.search rules };
 
     fn line(&self, side: Side, place: usize) -> Option<Quotation> {
         match side {
