@@ -1,6 +1,6 @@
 -- Every call, as one function of the book, the board and the pass.
-use Rattle.std.specs.Prelude.{ℕ, ◌-◌, Bool, cond, not, ◌&&◌, List, [], ◌∷◌, ◌++◌, Some, None, Option, ◌==◌, nat_le, nat_lt}
-use Rattle.ranking.specs.Place.{Spot, locate, head_of}
+use Rattle.std.specs.Prelude.{ℕ, Bool, cond, not, List, [], ◌∷◌, ◌++◌, Some, None, Option, ◌==◌, nat_le, nat_lt}
+use Rattle.ranking.specs.Place.{Spot, locate}
 use Rattle.market.specs.declared.types.Side.{Side}
 use Rattle.market.specs.declared.types.Side.TheVariants.{Buy, Sell}
 use Rattle.market.specs.declared.types.Resting.{Resting}

@@ -2,7 +2,6 @@
 use Rattle.std.specs.Prelude.{ℕ, ◌+◌, ◌-◌, min, Bool, cond, ◌&&◌, List, [], ◌∷◌, Some, None, Option, ◌==◌, nat_lt}
 use Rattle.ranking.specs.Place.{place}
 use Rattle.market.specs.declared.types.Side.{Side}
-use Rattle.market.specs.declared.types.Kind.{Kind}
 use Rattle.market.specs.declared.types.Kind.TheVariants.{Limit}
 use Rattle.market.specs.declared.types.Resting.{Resting}
 use Rattle.market.specs.declared.types.Route.{Route}

@@ -6,7 +6,6 @@ use Rattle.market.specs.declared.types.Route.{Route}
 use Rattle.market.specs.declared.types.Quotation.{Quotation}
 use Rattle.market.specs.declared.types.Order.{Order}
 use Rattle.market.specs.declared.types.Report.{Report}
-use Rattle.market.specs.declared.types.What.{What}
 use Rattle.market.specs.declared.types.What.TheVariants.{In, Trade, Sent, Rest, Off, Back}
 use Rattle.market.specs.declared.types.Reason.{Reason}
 use Rattle.market.specs.declared.types.Reason.TheVariants.{Cancelled, Cut, Replaced, Expired, Unfilled, WouldLock, NoRoute, SideFull}

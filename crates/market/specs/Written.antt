@@ -7,8 +7,6 @@ use Rattle.market.specs.declared.types.Kind.TheVariants.{Limit, BookOnly, Immedi
 use Rattle.market.specs.declared.types.What.{What}
 use Rattle.market.specs.declared.types.What.TheVariants.{In, Trade, Sent, Rest, Off, Back}
 use Rattle.market.specs.declared.types.Report.{Report}
-use Rattle.market.specs.declared.types.Refusal.{Refusal}
-use Rattle.market.specs.Reports.{refusal_number}
 
 -- what one field shows
 pub data Cell : Type 0 where

@@ -1,7 +1,6 @@
 -- What a clause reads of a ranked list.
 use Rattle.std.specs.Prelude.{ℕ, List, vec_items, vec_capacity}
 use Rattle.std.specs.Ptr.{Ptr}
-use Rattle.std.specs.declared.alloc.Global.{Global}
 use Rattle.std.specs.Vec.{vec_ptr, with_item}
 use Rattle.ranking.specs.declared.list.RankedList.{RankedList}
 

@@ -1,9 +1,8 @@
 -- A day's turns lead to its book and its pass, and say what is told of it: so the laws over all runs hold for it.
-use Rattle.std.proofs.Common.{◌≡◌, ℕ, ◌+◌, ◌*◌, true, List, [], ◌∷◌, ◌++◌, map, Some, None, Option, sym, refl, ap, ◌∙◌, subst, append_assoc, arith}
+use Rattle.std.proofs.Common.{◌≡◌, ℕ, ◌+◌, List, [], ◌∷◌, ◌++◌, map, Some, None, Option, sym, refl, ap, ◌∙◌, subst, append_assoc, arith}
 use Rattle.std.proofs.lemmas.Bool.{cond-true}
 use Rattle.market.specs.declared.types.Side.{Side}
 use Rattle.market.specs.declared.types.Quotation.{Quotation}
-use Rattle.market.specs.declared.types.Order.{Order}
 use Rattle.market.specs.declared.types.Report.{Report}
 use Rattle.market.specs.declared.types.What.{What}
 use Rattle.market.specs.declared.types.Refusal.{Refusal}
@@ -23,7 +22,7 @@ use Rattle.laws.proofs.Happens.{nothing_else}
 use Rattle.laws.proofs.Conserve.{shares_conserved_lem}
 use Rattle.laws.proofs.Priority.{time_priority_lem}
 use Rattle.replay.specs.Days.{Told, report, refusal, tell, turn, Finishes, idle, over, steps, Performs, performs, Requotes, Does, Day, done, then}
-use Rattle.replay.specs.Laws.{reports_told, reports_of, reports_said, book_after, pass_then, reports_by, in_shares, Accounted, Conserves, KeepsPriority, Lawful}
+use Rattle.replay.specs.Laws.{reports_told, reports_of, reports_said, book_after, pass_then, reports_by, in_shares, Accounted, Lawful}
 
 -- what is told in two parts
 told_append : (l m : List Told) → reports_told (l ++ m) ≡ reports_told l ++ reports_told m

@@ -1,21 +1,20 @@
 -- A call made with the book's own pass, its order worked to its end, and what is noted of both.
-use Rattle.std.proofs.Common.{◌≡◌, ℕ, Bool, true, cond, eqb, List, [], ◌∷◌, ◌++◌, Ok, Err, Result, sym, refl, ap, ◌∙◌, subst}
+use Rattle.std.proofs.Common.{◌≡◌, ℕ, eqb, [], ◌∷◌, ◌++◌, Ok, Err, Result, sym, refl, ◌∙◌, subst}
 use Rattle.std.proofs.lemmas.Bool.{eq-eqb, cond-true}
 use Rattle.market.specs.declared.types.Call.{Call}
 use Rattle.market.specs.States.{State, Quotes}
 use Rattle.market.specs.Quotes.{Shown}
 use Rattle.market.specs.declared.types.Report.{Report}
 use Rattle.market.specs.declared.types.Refusal.{Refusal}
-use Rattle.market.specs.Calls.{Pass, ready, ended, in_hand, Says, Outcome, answer, refuse, call}
+use Rattle.market.specs.Calls.{Pass, ready, ended, Outcome, answer, refuse, call}
 use Rattle.market.specs.Sound.{Sound}
 use Rattle.soundness.specs.Kept.{Bearable}
 use Rattle.soundness.proofs.Kept.{sound_kept_lem}
 use Rattle.book.specs.Outcomes.{own_call, reported_as}
-use Rattle.laws.specs.Strings.{Turn}
 use Rattle.order_file.specs.declared.instructions.Instruction.{Instruction}
 use Rattle.market.specs.declared.types.Refusal.TheVariants.{NoPass}
-use Rattle.replay.specs.Days.{Told, refusal, tell, turn, Finishes, idle, over, Performs, performs}
-use Rattle.replay.specs.Records.{Noted, record_of}
+use Rattle.replay.specs.Days.{refusal, tell, turn, Finishes, idle, over, performs}
+use Rattle.replay.specs.Records.{Noted}
 use Rattle.replay.specs.Desks.{tell_answer, Finished, Performed, Followed}
 use Rattle.replay.specs.declared.record.Record.{Record}
 use Rattle.replay.proofs.Works.{noted_on, noted_none}

@@ -1,5 +1,5 @@
 -- A quote followed, and what is noted of it.
-use Rattle.std.proofs.Common.{◌≡◌, List, [], ◌∷◌, Some, None, Option, sym, refl, ap, ◌∙◌, subst}
+use Rattle.std.proofs.Common.{◌≡◌, [], ◌∷◌, Some, None, Option, sym, refl, subst}
 use Rattle.market.specs.declared.types.Side.{Side}
 use Rattle.market.specs.declared.types.Quotation.{Quotation}
 use Rattle.market.specs.declared.types.Refusal.{Refusal}
@@ -8,9 +8,8 @@ use Rattle.market.specs.Reports.{refusal_number}
 use Rattle.market.specs.Quotes.{requoted}
 use Rattle.market.specs.Calls.{Pass}
 use Rattle.table_board.specs.Quoting.{quotation_refusal}
-use Rattle.laws.specs.Strings.{Turn}
 use Rattle.order_file.specs.declared.instructions.Instruction.TheVariants.{Quote}
-use Rattle.replay.specs.Days.{Told, refusal, Requotes}
+use Rattle.replay.specs.Days.{refusal, Requotes}
 use Rattle.replay.specs.Records.{Noted}
 use Rattle.replay.specs.Desks.{Followed}
 use Rattle.replay.specs.declared.record.Record.{Record}

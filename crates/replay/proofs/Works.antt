@@ -1,18 +1,17 @@
 -- Steps of an order worked to its end, and what is noted of them.
-use Rattle.std.proofs.Common.{◌≡◌, ℕ, ◌<◌, Bool, true, false, cond, eqb, List, [], ◌∷◌, ◌++◌, Some, None, Option, sym, refl, ap, ◌∙◌, subst, append_assoc, arith}
+use Rattle.std.proofs.Common.{◌≡◌, ℕ, true, eqb, List, [], ◌∷◌, ◌++◌, Some, None, Option, sym, refl, ap, ◌∙◌, subst, append_assoc, arith}
 use Rattle.std.proofs.lemmas.Bool.{eq-eqb, cond-true}
 use Rattle.market.specs.declared.types.Order.{Order}
 use Rattle.market.specs.declared.types.Report.{Report}
 use Rattle.market.specs.declared.types.Refusal.{Refusal}
-use Rattle.market.specs.declared.types.Refusal.TheVariants.{WrongPass}
 use Rattle.market.specs.declared.types.Call.TheVariants.{Work}
 use Rattle.market.specs.States.{State, Quotes, fits}
 use Rattle.market.specs.Steps.{step}
-use Rattle.market.specs.Calls.{Pass, ready, ended, in_hand, Says, reports, refused, Outcome, answer, refuse, held_by, stepped, work_call, call}
+use Rattle.market.specs.Calls.{Pass, ready, in_hand, reports, answer, refuse, held_by, stepped}
 use Rattle.book.specs.Outcomes.{own_call}
 use Rattle.laws.specs.Strings.{Turn}
-use Rattle.replay.specs.Days.{Told, report, turn, Finishes, idle, over, steps}
-use Rattle.replay.specs.Records.{Noted, record_of, whole_of}
+use Rattle.replay.specs.Days.{Told, report, turn, Finishes, idle, steps}
+use Rattle.replay.specs.Records.{Noted, record_of}
 use Rattle.replay.specs.Desks.{Finished}
 use Rattle.replay.specs.declared.record.Record.{Record}
 

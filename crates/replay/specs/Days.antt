@@ -11,7 +11,7 @@ use Rattle.market.specs.States.{State, Quotes, quoted, put_quotes, fits}
 use Rattle.market.specs.Reports.{refusal_number}
 use Rattle.market.specs.Quotes.{requoted}
 use Rattle.market.specs.Steps.{step}
-use Rattle.market.specs.Calls.{Pass, ready, ended, in_hand, Says, reports, refused, Outcome, held_by, call}
+use Rattle.market.specs.Calls.{Pass, ready, ended, in_hand, Says, reports, refused, held_by, call}
 use Rattle.table_board.specs.Quoting.{quotation_refusal}
 use Rattle.order_file.specs.declared.instructions.Instruction.{Instruction}
 use Rattle.order_file.specs.declared.instructions.Instruction.TheVariants.{Enter as Enter', Replace as Replace', Cut as Cut', Cancel as Cancel', Reply as Reply', Quote as Quote', Close as Close', Expire as Expire'}

@@ -1,5 +1,5 @@
 -- The record's lines, what they tell, and how they are written.
-use Rattle.std.specs.Prelude.{◌≡◌, ℕ, Bool, true, List, [], ◌∷◌, ◌++◌, map, vec_items}
+use Rattle.std.specs.Prelude.{◌≡◌, ℕ, Bool, true, List, ◌++◌, map, vec_items}
 use Rattle.market.specs.Reports.{refusal_number}
 use Rattle.market.specs.Written.{report_line, refusal_line}
 use Rattle.replay.specs.Days.{Told, report, refusal}

@@ -1,4 +1,4 @@
-use Rattle.std.proofs.Common.{◌≡◌, map, string_bytes, refl, ap, ◌∙◌}
+use Rattle.std.proofs.Common.{map, string_bytes, refl, ap, ◌∙◌}
 use Rattle.std.proofs.lemmas.List.{take_all}
 use Rattle.replay.specs.Records.{told_of}
 use Rattle.replay.specs.Sessions.{lines_text, report_names}
@@ -7,7 +7,7 @@ use Rattle.replay.proofs.day.render.Goals as goal
 
 pub loop-line-init : goal.loop-line-init
 unfolding report_names
-loop-line-init c = let e = c.in-ok-push-str.ensures.bytes in e ∙ rw c.new-out.ensures.bytes refl
+loop-line-init c = let e = c.in_ok-push_str.ensures.bytes in e ∙ rw c.new-out.ensures.bytes refl
 
 pub loop-line-preserved : goal.loop-line-preserved
 loop-line-preserved c =

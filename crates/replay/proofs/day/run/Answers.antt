@@ -8,7 +8,7 @@ use Rattle.replay.proofs.day.run.Goals as goal
 pub loop-i-init : goal.loop-i-init
 loop-i-init c =
     let m = c.in-Ok.ensures in
-    (m.1 ∙ sym m.0, so_far_start c.args.instructions.now (book_state c.in-Ok.made.0) (lists_of c.in-ok-board.board) c.new-log.result m.2 c.in-ok-board.ensures c.new-log.ensures.0)
+    (m.1 ∙ sym m.0, so_far_start c.args.instructions.now (book_state c.in-Ok.made.0) (lists_of c.in_ok-board.board) c.new-log.result m.2 c.in_ok-board.ensures c.new-log.ensures.0)
 
 pub loop-i-preserved : goal.loop-i-preserved
 loop-i-preserved c =

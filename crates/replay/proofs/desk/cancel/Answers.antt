@@ -1,11 +1,5 @@
-use Rattle.std.proofs.Common.{◌≡◌, [], ◌∷◌, sym, refl, ap, ◌∙◌, subst}
 use Rattle.market.specs.declared.types.Call.TheVariants.{Cancel}
-use Rattle.market.specs.Calls.{Pass, ready, ended, in_hand, refuse, answer}
-use Rattle.table_board.specs.Quoting.{lists_of}
-use Rattle.book.specs.Outcomes.{book_state, id_of, ready_book, hand_book, ended_book, order_of, next_pass, next_book, late_list}
-use Rattle.replay.specs.Days.{report}
-use Rattle.replay.proofs.Boards.{table_shown}
-use Rattle.replay.proofs.Works.{noted_on}
+use Rattle.book.specs.Outcomes.{book_state, id_of, ready_book}
 use Rattle.replay.proofs.Performs.{answered_ready}
 use Rattle.replay.proofs.desk.cancel.Goals as goal
 
@@ -13,6 +7,6 @@ pub returns : goal.returns
 returns c =
     let b = c.args.book.now in
     record {
-      performed = λ q. answered_ready (ready_book c.args.pass.now) (id_of b) (Cancel c.args.user c.args.number) (book_state b) q c.requires c.cancel-answer.result (book_state c.cancel-answer.new.self) c.args.log.now c.note-answer.new.log (c.cancel-answer.ensures.outcome q) c.note-answer.ensures;
+      performed = λ q. answered_ready (ready_book c.args.pass.now) (id_of b) (Cancel c.args.user c.args.number) (book_state b) q c.requires c.cancel-answer.result (book_state c.cancel-answer.new.self) c.args.log.now c.note_answer.new.log (c.cancel-answer.ensures.outcome q) c.note_answer.ensures;
       id = c.cancel-answer.ensures.id;
     }

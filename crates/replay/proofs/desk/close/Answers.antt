@@ -1,12 +1,9 @@
-use Rattle.std.proofs.Common.{◌≡◌, [], ◌∷◌, sym, refl, ap, ◌∙◌, subst}
+use Rattle.std.proofs.Common.{[]}
 use Rattle.market.specs.declared.types.Call.TheVariants.{Close}
-use Rattle.market.specs.Calls.{Pass, ready, ended, in_hand, refuse, answer}
-use Rattle.table_board.specs.Quoting.{lists_of}
-use Rattle.book.specs.Outcomes.{book_state, id_of, ready_book, hand_book, ended_book, order_of, next_pass, next_book, late_list}
-use Rattle.replay.specs.Days.{report}
-use Rattle.replay.proofs.Boards.{table_shown}
+use Rattle.market.specs.Calls.{ready, ended, refuse, answer}
+use Rattle.book.specs.Outcomes.{book_state, id_of, ready_book}
 use Rattle.replay.proofs.Works.{noted_none}
-use Rattle.replay.proofs.Performs.{finished_idle, finished_over, performed_by, borne_after}
+use Rattle.replay.proofs.Performs.{finished_idle, finished_over, performed_by}
 use Rattle.replay.proofs.desk.close.Goals as goal
 
 pub returns-in-Ok : goal.returns-in-Ok

@@ -1,4 +1,4 @@
-use Rattle.std.proofs.Common.{◌≡◌, Some, sym, refl, ap, ◌∙◌, subst}
+use Rattle.std.proofs.Common.{sym, refl, ap, ◌∙◌, subst}
 use Rattle.market.specs.States.{fits}
 use Rattle.market.specs.Calls.{Pass, ready, in_hand}
 use Rattle.market.specs.Steps.{step}
@@ -16,7 +16,7 @@ loop-worked-init c = (refl, refl, c.requires.fits, onward_start (book_state c.ar
 pub unreachable-requires : goal.unreachable-requires
 unreachable-requires c =
     let l = c.loop-worked in
-    work_accepted (hand_book l.hand) (id_of l.book) (book_state l.book) _ (lists_of l.board) _ (order_of l.hand) _ _ (l.invariant.0 ∙ c.requires.own_val ∙ sym l.invariant.1) l.invariant.2 c.in-Err.ensures.outcome
+    work_accepted (hand_book l.hand) (id_of l.book) (book_state l.book) _ (lists_of l.board) _ (order_of l.hand) _ _ (l.invariant.0 ∙ c.requires.own ∙ sym l.invariant.1) l.invariant.2 c.in-Err.ensures.outcome
 
 pub returns-in-Done : goal.returns-in-Done
 returns-in-Done c =
@@ -26,7 +26,7 @@ returns-in-Done c =
     let o = order_of l.hand in
     let e = c.in-Ok.ensures in
     let w : Stepped s (book_state c.work.new.self) q (lists_of c.work.new.board) o c.in-Ok.worked.1 (next_pass c.in-Ok.worked.0) =
-    work_steps (hand_book l.hand) (id_of l.book) s _ q _ o _ _ (l.invariant.0 ∙ c.requires.own_val ∙ sym l.invariant.1) l.invariant.2 e.outcome
+    work_steps (hand_book l.hand) (id_of l.book) s _ q _ o _ _ (l.invariant.0 ∙ c.requires.own ∙ sym l.invariant.1) l.invariant.2 e.outcome
     in
     let w' : Stepped s (book_state c.work.new.self) q (lists_of c.work.new.board) o c.in-Ok.worked.1 ready =
     subst (λ (p : Pass). Stepped s (book_state c.work.new.self) q (lists_of c.work.new.board) o c.in-Ok.worked.1 p) (ap next_pass c.in-Done.is) w
@@ -43,7 +43,7 @@ loop-worked-smaller c =
     let s = book_state l.book in
     let q = lists_of l.board in
     let o = order_of l.hand in
-    let w = work_steps (hand_book l.hand) (id_of l.book) s (book_state c.work.new.self) q (lists_of c.work.new.board) o c.in-Ok.worked.1 (next_pass c.in-Ok.worked.0) (l.invariant.0 ∙ c.requires.own_val ∙ sym l.invariant.1) l.invariant.2 c.in-Ok.ensures.outcome in
+    let w = work_steps (hand_book l.hand) (id_of l.book) s (book_state c.work.new.self) q (lists_of c.work.new.board) o c.in-Ok.worked.1 (next_pass c.in-Ok.worked.0) (l.invariant.0 ∙ c.requires.own ∙ sym l.invariant.1) l.invariant.2 c.in-Ok.ensures.outcome in
     let e = left_is (step s q o).left (order_of c.in-More.rest) (sym (ap next_pass c.in-More.is) ∙ w.pass_is) in
     (remainder_never_grows s q o (order_of c.in-More.rest) e).1 l.hand.fit l.book.orders.sound (table_shown l.board)
 
@@ -56,7 +56,7 @@ loop-worked-preserved c =
     let o' = order_of c.in-More.rest in
     let x = c.in-Ok.ensures in
     let w : Stepped s (book_state c.work.new.self) q (lists_of c.work.new.board) o c.in-Ok.worked.1 (next_pass c.in-Ok.worked.0) =
-    work_steps (hand_book l.hand) (id_of l.book) s _ q _ o _ _ (l.invariant.0 ∙ c.requires.own_val ∙ sym l.invariant.1) l.invariant.2 x.outcome
+    work_steps (hand_book l.hand) (id_of l.book) s _ q _ o _ _ (l.invariant.0 ∙ c.requires.own ∙ sym l.invariant.1) l.invariant.2 x.outcome
     in
     let w' : Stepped s (book_state c.work.new.self) q (lists_of c.work.new.board) o c.in-Ok.worked.1 (in_hand o') =
     subst (λ (p : Pass). Stepped s (book_state c.work.new.self) q (lists_of c.work.new.board) o c.in-Ok.worked.1 p) (ap next_pass c.in-More.is) w

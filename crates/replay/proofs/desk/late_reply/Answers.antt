@@ -1,14 +1,12 @@
-use Rattle.std.proofs.Common.{◌≡◌, [], ◌∷◌, Some, None, Option, sym, refl, ap, ◌∙◌, subst}
+use Rattle.std.proofs.Common.{[], ◌∷◌, Some, None, Option, sym, ap, ◌∙◌}
 use Rattle.market.specs.declared.types.Call.TheVariants.{Reply}
 use Rattle.market.specs.declared.types.Report.{Report}
 use Rattle.market.specs.States.{Quotes}
-use Rattle.market.specs.Calls.{Pass, ready, ended, in_hand, refuse, answer}
-use Rattle.table_board.specs.Quoting.{lists_of}
-use Rattle.book.specs.Outcomes.{book_state, id_of, ready_book, hand_book, ended_book, order_of, next_pass, next_book, late_list}
+use Rattle.market.specs.Calls.{ended, refuse, answer}
+use Rattle.book.specs.Outcomes.{book_state, id_of, ended_book, late_list}
 use Rattle.replay.specs.Days.{report}
-use Rattle.replay.proofs.Boards.{table_shown}
 use Rattle.replay.proofs.Works.{noted_on}
-use Rattle.replay.proofs.Performs.{finished_idle, finished_over, performed_by, borne_after}
+use Rattle.replay.proofs.Performs.{finished_over, performed_by}
 use Rattle.replay.proofs.desk.late_reply.Goals as goal
 
 pub returns-in-Err : goal.returns-in-Err
@@ -17,7 +15,7 @@ returns-in-Err c =
     let s = book_state b in
     let a = ended_book c.args.pass.now in
     let call = Reply c.args.filled c.args.number in
-    let s' = book_state c.late-reply.new.self in
+    let s' = book_state c.late_reply.new.self in
     let e = c.in-Err.ensures in
     let n = c.note in
     record {
@@ -31,7 +29,7 @@ returns-in-Some c =
     let s = book_state b in
     let a = ended_book c.args.pass.now in
     let call = Reply c.args.filled c.args.number in
-    let s' = book_state c.late-reply.new.self in
+    let s' = book_state c.late_reply.new.self in
     let e = c.in-Ok.ensures in
     let n = c.note-in-Some in
     let o = λ (x : Option Report) (q : Quotes). answer (c.in-Ok.replied.0 ∷ late_list x) s' q ended in
@@ -40,17 +38,17 @@ returns-in-Some c =
       id = e.id;
     }
 
-pub returns-in-default : goal.returns-in-default
-returns-in-default c =
+pub returns-in_default : goal.returns-in_default
+returns-in_default c =
     let b = c.args.book.now in
     let s = book_state b in
     let a = ended_book c.args.pass.now in
     let call = Reply c.args.filled c.args.number in
-    let s' = book_state c.late-reply.new.self in
+    let s' = book_state c.late_reply.new.self in
     let e = c.in-Ok.ensures in
     let n = c.note-in-Ok in
     let o = λ (x : Option Report) (q : Quotes). answer (c.in-Ok.replied.0 ∷ late_list x) s' q ended in
     record {
-      performed = λ q. performed_by a (id_of b) call s q ended c.requires (o None q) s' q ended c.args.log.now n.new.self n.new.self (sym (ap (λ (x : Option Report). o x q) c.in-default.is) ∙ e.outcome q) (finished_over s' q n.new.self) n.ensures;
+      performed = λ q. performed_by a (id_of b) call s q ended c.requires (o None q) s' q ended c.args.log.now n.new.self n.new.self (sym (ap (λ (x : Option Report). o x q) c.in_default.is) ∙ e.outcome q) (finished_over s' q n.new.self) n.ensures;
       id = e.id;
     }

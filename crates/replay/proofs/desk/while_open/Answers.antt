@@ -1,11 +1,11 @@
 use Rattle.std.proofs.Common.{refl}
-use Rattle.market.specs.declared.types.Call.TheVariants.{Enter, Replace, Cut, Cancel, Close, Expire}
-use Rattle.market.specs.Calls.{ready, ended}
+use Rattle.market.specs.declared.types.Call.TheVariants.{Expire}
+use Rattle.market.specs.Calls.{ready}
 use Rattle.order_file.specs.declared.instructions.Instruction.TheVariants.{Enter as Enter', Replace as Replace', Cut as Cut', Cancel as Cancel', Reply as Reply', Quote as Quote', Close as Close', Expire as Expire'}
 use Rattle.table_board.specs.Quoting.{lists_of}
 use Rattle.book.specs.Outcomes.{book_state}
 use Rattle.replay.specs.Desks.{stage_pass}
-use Rattle.replay.proofs.Performs.{followed_as, no_pass_ready, no_pass_ended}
+use Rattle.replay.proofs.Performs.{followed_as, no_pass_ready}
 use Rattle.replay.proofs.desk.while_open.Goals as goal
 
 pub returns-in-Enter : goal.returns-in-Enter
@@ -70,4 +70,4 @@ returns-in-Expire c =
     let s = book_state b in
     let q = lists_of c.args.board.now in
     let r = c.args.log.now in
-    record { followed = followed_as c.args.i (Expire') s s q q ready ready r c.no-pass.new.log c.in-Expire.is (no_pass_ready Expire s q r c.no-pass.new.log c.no-pass.ensures refl); pass = refl; id = refl }
+    record { followed = followed_as c.args.i (Expire') s s q q ready ready r c.no_pass.new.log c.in-Expire.is (no_pass_ready Expire s q r c.no_pass.new.log c.no_pass.ensures refl); pass = refl; id = refl }

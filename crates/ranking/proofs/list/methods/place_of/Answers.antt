@@ -1,4 +1,4 @@
-use Rattle.std.proofs.Common.{sym, ◌∙◌, arith}
+use Rattle.std.proofs.Common.{sym, arith}
 use Rattle.ranking.proofs.Placing.{place_more, place_here, place_last}
 use Rattle.ranking.proofs.list.methods.place_of.Goals as goal
 

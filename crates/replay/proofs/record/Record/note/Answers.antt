@@ -3,8 +3,8 @@ use Rattle.std.proofs.lemmas.List.{map-append}
 use Rattle.replay.specs.Records.{told_of}
 use Rattle.replay.proofs.record.Record.note.Goals as goal
 
-pub returns-else-is-err : goal.returns-else-is-err
-returns-else-is-err c h =
+pub returns-else-is_err : goal.returns-else-is_err
+returns-else-is_err c h =
     let xs = vec_items c.args.self.now.lines in
     let x = c.args.line in
-    (h, ap (map told_of) (c.push.ensures.items ∙ ap (λ b. cond b (xs ++ x ∷ []) xs) c.if-is-err.ensures.negation) ∙ map-append told_of xs (x ∷ []))
+    (h, ap (map told_of) (c.push.ensures.items ∙ ap (λ b. cond b (xs ++ x ∷ []) xs) c.if-is_err.ensures.negation) ∙ map-append told_of xs (x ∷ []))
