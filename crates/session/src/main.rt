@@ -6,6 +6,7 @@ mod input;
 use anyhow::anyhow;
 use input::order_file;
 use replay::day::replay;
+use std::process::ExitCode;
 
 fn run(rt: &HostRuntime) -> anyhow::Result<()> {
     let file = order_file(rt)?;
@@ -15,11 +16,13 @@ fn run(rt: &HostRuntime) -> anyhow::Result<()> {
     }
 }
 
-fn main(rt: HostRuntime) -> anyhow::Result<()> {
-    let done = run(&rt);
-    if let Err(e) = &done {
-        // Where even this cannot be written, the status still tells.
-        let _ = rt.eprintln(format_args!("session: {e}"));
+fn main(rt: HostRuntime) -> ExitCode {
+    match run(&rt) {
+        Ok(()) => ExitCode::SUCCESS,
+        Err(e) => {
+            // Where even this cannot be written, the status still tells.
+            let _ = rt.eprintln(format_args!("session: {e}"));
+            ExitCode::FAILURE
+        }
     }
-    done
 }
