@@ -45,11 +45,12 @@ EqualExactly =
     (s s' : State) → Sound s → Sound s' → TwoUnused s → TwoUnused s' → (Equal s s' → NeverToldApart s s') × (NeverToldApart s s' → Equal s s')
 
 -- what the verdict of a comparison says of later trading: of equal books, that no string ever draws different answers from them; of others,
--- that a string does which has at most four calls more than the first book has resting orders
+-- where each has two or more unused numbers, that a string does which has at most four calls more than the first book has resting orders
 abbrev pub Foretells : Bool → State → State → Type 0
 Foretells true s s' = (ts : List Turn) → answers ts s ready ≡ answers ts s' ready
 Foretells false s s' = TwoUnused s → TwoUnused s' → Differ (length s.buys + length s.sells + 4) s s'
 
--- the verdict is true exactly when no string of calls, whichever boards show its quotations, tells the two books apart
+-- where each book has two or more unused numbers, the verdict is true exactly when no string of calls, whichever boards show its
+-- quotations, tells the two books apart
 abbrev pub ToldExactly : Bool → State → State → Type 0
 ToldExactly r s s' = TwoUnused s → TwoUnused s' → Decides r (NeverToldApart s s')
