@@ -1,51 +1,42 @@
--- Steps of the search for a line.
-use Rattle.std.proofs.Common.{◌≡◌, ℕ, ◌+◌, ◌<◌, ◌≤◌, Bool, true, false, cond, List, [], ◌∷◌, ◌++◌, length, get_or, take, drop, Some, None, Option, sym, refl, ap, ◌∙◌, append_assoc, append-nil}
-use Rattle.std.proofs.lemmas.List.{take_more, at_drop_more, at_drop_all}
-use Rattle.ranking.specs.Place.{Spot, past, locate, spot_at}
+-- What std's searches of a list say in the words of a ranked list.
+use Rattle.std.proofs.Common.{◌≡◌, ℕ, suc, ◌<◌, ◌≤◌, Bool, true, false, not, ◌&&◌, ◌||◌, List, [], ◌∷◌, length, Some, None, Option, sym, refl, ap, ◌∙◌, subst, arith, add-one}
+use Rattle.std.specs.List.{position_or_len, position, list_any}
+use Rattle.std.proofs.lemmas.Bool.{cond_both, ltb-true, ltb-false}
+use Rattle.ranking.specs.Place.{every, past, locate, spot_at, Found}
 
--- a line found behind others
-abbrev pub beyond : {X : Type 0} → List X → Option (Spot X) → Option (Spot X)
-beyond fs None = None
-beyond fs (Some s) = Some (record { front = fs ++ s.front; line = s.line; rest = s.rest })
+one_on : {X : Type 0} (x : X) (xs : List X) (i : ℕ) (d : X) → past x (Some (spot_at xs i d)) ≡ Some (spot_at (x ∷ xs) (suc i) d)
+one_on x xs i d = rw (add-one, add-one)
 
-beyond_none : {X : Type 0} (o : Option (Spot X)) → o ≡ beyond [] o
-beyond_none None = refl
-beyond_none (Some s) = refl
+module _ {X : Type 0} (t : X → Bool) where
+  -- a list whose first line passes the test, and one whose first line fails it
+  here : (x : X) (xs : List X) → t x ≡ true → (position_or_len t (x ∷ xs) ≡ 0) × (locate t (x ∷ xs) ≡ Some (record { front = []; line = x; rest = xs }))
+  here x xs e = (rw e refl, rw e refl)
 
-beyond_past : {X : Type 0} (fs : List X) (x : X) (o : Option (Spot X)) → beyond fs (past x o) ≡ beyond (fs ++ (x ∷ [])) o
-beyond_past fs x None = refl
-beyond_past fs x (Some s) = ap (λ l. Some (record { front = l; line = s.line; rest = s.rest })) (sym (append_assoc fs (x ∷ []) s.front))
+  on : (x : X) (xs : List X) → t x ≡ false → (position_or_len t (x ∷ xs) ≡ suc (position_or_len t xs)) × (locate t (x ∷ xs) ≡ past x (locate t xs))
+  on x xs e = (rw e (omega arith), rw e refl)
 
-module _ {X : Type 0} (t : X → Bool) (xs : List X) where
-  -- none of the first i lines passes
-  abbrev pub Passed : ℕ → Type 0
-  Passed i = locate t xs ≡ beyond (take i xs) (locate t (drop i xs))
+  -- the first line that passes stands at the position, if one does
+  pub located : (xs : List X) (d : X) → position_or_len t xs < length xs → locate t xs ≡ Some (spot_at xs (position_or_len t xs) d)
+  located [] d h = absurd (omega arith)
+  located (x ∷ xs) d h =
+      let G : Bool → Type 0 = λ b. t x ≡ b → locate t (x ∷ xs) ≡ Some (spot_at (x ∷ xs) (position_or_len t (x ∷ xs)) d) in
+      (elim (t x) as G [
+        | true ↦ λ e. (here x xs e).1 ∙ rw e refl
+        | false ↦ λ e. (on x xs e).1 ∙ ap (past x) (located xs d (omega (arith, (on x xs e).0))) ∙ one_on x xs (position_or_len t xs) d ∙ ap (λ i. Some (spot_at (x ∷ xs) i d)) (sym (on x xs e).0)
+      ]) refl
 
-  pub passed_none : Passed 0
-  passed_none = beyond_none (locate t xs)
+  pub unlocated : (xs : List X) → length xs ≤ position_or_len t xs → locate t xs ≡ None
+  unlocated [] h = refl
+  unlocated (x ∷ xs) h =
+      let G : Bool → Type 0 = λ b. t x ≡ b → locate t (x ∷ xs) ≡ None in
+      (elim (t x) as G [
+        | true ↦ λ e. absurd (omega (arith, (here x xs e).0))
+        | false ↦ λ e. (on x xs e).1 ∙ ap (past x) (unlocated xs (omega (arith, (on x xs e).0)))
+      ]) refl
 
-  module _ (i : ℕ) (y : X) (h : i < length xs) (read : y ≡ get_or xs i y) (inv : Passed i) where
-    at_y : locate t (drop i xs) ≡ cond (t y) (Some (record { front = []; line = y; rest = drop (i + 1) xs })) (past y (locate t (drop (i + 1) xs)))
-    at_y =
-        let rest : drop i xs ≡ y ∷ drop (i + 1) xs = at_drop_more (λ zs. zs) xs i y h ∙ ap (λ z. z ∷ drop (i + 1) xs) (sym read) in
-        ap (locate t) rest
+  pub found : (xs : List X) (r : Option ℕ) → r ≡ position t xs → Found t xs r
+  found xs r e = subst (Found t xs) (sym e) (cond_both _ _ _ (Found t xs) (λ h. let w = ltb-true _ _ h in (w, λ d. located xs d w)) (λ h. unlocated xs (ltb-false _ _ h)))
 
-    pub passed_more : t y ≡ false → Passed (i + 1)
-    passed_more e =
-        let front : take (i + 1) xs ≡ take i xs ++ (y ∷ []) = take_more xs i y h ∙ ap (λ z. take i xs ++ (z ∷ [])) (sym read) in
-        inv
-        ∙ ap (beyond (take i xs)) (at_y ∙ ap (λ b. cond b (Some (record { front = []; line = y; rest = drop (i + 1) xs })) (past y (locate t (drop (i + 1) xs)))) e)
-        ∙ beyond_past (take i xs) y (locate t (drop (i + 1) xs))
-        ∙ ap (λ fs. beyond fs (locate t (drop (i + 1) xs))) (sym front)
-
-    found_here : t y ≡ true → locate t xs ≡ Some (record { front = take i xs; line = y; rest = drop (i + 1) xs })
-    found_here e =
-        inv
-        ∙ ap (beyond (take i xs)) (at_y ∙ ap (λ b. cond b (Some (record { front = []; line = y; rest = drop (i + 1) xs })) (past y (locate t (drop (i + 1) xs)))) e)
-        ∙ ap (λ fs. Some (record { front = fs; line = y; rest = drop (i + 1) xs })) (append-nil (take i xs))
-
-    pub found_at : t y ≡ true → (d : X) → get_or xs i y ≡ get_or xs i d → locate t xs ≡ Some (spot_at xs i d)
-    found_at e d same = found_here e ∙ ap (λ z. Some (record { front = take i xs; line = z; rest = drop (i + 1) xs })) (read ∙ same)
-
-  pub found_none : (i : ℕ) → length xs ≤ i → Passed i → locate t xs ≡ None
-  found_none i h inv = inv ∙ ap (beyond (take i xs)) (at_drop_all (locate t) xs i h)
+  pub every_other : (xs : List X) → not (list_any t xs) ≡ every (λ x. not (t x)) xs
+  every_other [] = refl
+  every_other (x ∷ xs) = elim (t x) as (λ b. not (b || list_any t xs) ≡ (not b && every (λ x. not (t x)) xs)) [ true ↦ refl | false ↦ every_other xs ]

@@ -1,13 +1,12 @@
-// A list that is kept in rank, and holds no more lines than it was made for.
+// A list that is kept in rank, and holds no more lines than its type says.
 ghost use Rattle.std.specs.Prelude.{◌≤◌, vec_len, vec_capacity};
 
 pub mod methods;
 
-// Room for `most` lines is reserved when the list is made, so that no later call allocates.
+// Room for `MOST` lines is reserved when the list is made, so that no later call allocates.
 #[derive(Drop)]
-pub struct RankedList<T> {
+pub struct RankedList<T, const MOST: usize> {
     lines: Vec<T>,
-    most: usize,
-    ghost within: { vec_len lines ≤ most },
-    ghost room: { most ≤ vec_capacity lines },
+    ghost within: { vec_len lines ≤ MOST },
+    ghost room: { MOST ≤ vec_capacity lines },
 }

@@ -1,4 +1,4 @@
-// What orders the lines of a list, and what a line is sought by.
+// What orders the lines of a list.
 ghost use Rattle.std.specs.Prelude.{◌≡◌, Bool, true, false};
 
 // A strict weak order on lines, as a value: a side of the market orders resting orders and quotations alike.
@@ -17,12 +17,4 @@ pub trait Rank<T> {
 
     // Standing level, neither before the other, is transitive.
     ghost level: { (s : Self) (x y z : T) → before s x y ≡ false → before s y x ≡ false → before s y z ≡ false → before s z y ≡ false → before s x z ≡ false };
-}
-
-// What a line is sought by: a number, a number and its owner, a venue.
-pub trait Sought<T> {
-    ghost fits: { Self → T → Bool };
-
-    fn is_met_by(&self, x: &T) -> bool
-        ensures { result ≡ fits self.now x.now };
 }
