@@ -1,4 +1,5 @@
 pub mod Sides
+pub mod Pairs
 pub mod Legal
 pub mod Numbers
 pub mod States

@@ -5,4 +5,5 @@ pub mod legal;
 pub mod ranks;
 pub mod refusals;
 pub mod reports;
+pub mod sides;
 pub mod types;

@@ -1,11 +1,10 @@
-// Which of two lines stands first, and what a line is sought by.
+// Which of two lines stands first.
 ghost use Rattle.std.specs.Prelude.{◌≡◌};
 ghost use Rattle.market.specs.Sides.{ahead, across_of, resting_before, quotation_before, route_before, within};
-ghost use Rattle.market.specs.States.{resting_bears, route_bears, owned, venue_is};
 ghost use Rattle.std.proofs.Common.{rules};
 
 use crate::types::{Quotation, Resting, Route, Side};
-use ranking::rank::{Rank, Sought};
+use ranking::rank::Rank;
 
 impl Side {
     // The opposite side.
@@ -82,52 +81,5 @@ impl Rank<Route> for ByNumber {
 
     fn stands_before(&self, x: &Route, y: &Route) -> bool {
         x.number < y.number
-    }
-}
-
-// The line that bears a number.
-#[derive(Clone, Copy)]
-pub struct Numbered(pub u32);
-
-impl Sought<Resting> for Numbered {
-    ghost fits = { λ s p. resting_bears s.0 p };
-
-    fn is_met_by(&self, x: &Resting) -> bool {
-        x.number == self.0
-    }
-}
-
-impl Sought<Route> for Numbered {
-    ghost fits = { λ s r. route_bears s.0 r };
-
-    fn is_met_by(&self, x: &Route) -> bool {
-        x.number == self.0
-    }
-}
-
-// The resting order that bears a number and is this user's.
-#[derive(Clone, Copy)]
-pub struct Owned {
-    pub user: u32,
-    pub number: u32,
-}
-
-impl Sought<Resting> for Owned {
-    ghost fits = { λ s p. owned s.user s.number p };
-
-    fn is_met_by(&self, x: &Resting) -> bool {
-        x.number == self.number && x.user == self.user
-    }
-}
-
-// The quotation of a venue.
-#[derive(Clone, Copy)]
-pub struct Venue(pub u32);
-
-impl Sought<Quotation> for Venue {
-    ghost fits = { λ s q. venue_is s.0 q };
-
-    fn is_met_by(&self, x: &Quotation) -> bool {
-        x.venue == self.0
     }
 }
