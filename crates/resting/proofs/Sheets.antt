@@ -1,60 +1,61 @@
--- Two lists as a sheet has them, place by place.
-use Rattle.std.proofs.Common.{◌≡◌, ℕ, zero, suc, ◌+◌, ◌<◌, ◌≤◌, Bool, true, false, List, [], ◌∷◌, map, length, get_or, Some, None, Decides, Option, sym, refl, ap, ◌∙◌, arith, below_more}
-use Rattle.std.specs.List.{slice_get}
-use Rattle.std.proofs.lemmas.Option.{slice_get_past}
-use Rattle.std.proofs.lemmas.List.{length-map}
+-- What the comparison of two chains by `eq` says of the lists that they give.
+use Rattle.std.proofs.Common.{◌≡◌, Bool, true, false, List, [], ◌∷◌, map, Some, None, Decides, Option, refl, sym, ap₂, ◌∙◌, subst}
 use Rattle.market.specs.declared.types.Side.{Side}
 use Rattle.market.specs.declared.types.Side.TheVariants.{Buy, Sell}
 use Rattle.market.specs.States.{State, on}
 use Rattle.market.specs.Sheets.{line, sheet}
+use Rattle.std.specs.Option.{MatchOption, IfSome}
+use Rattle.std.specs.Iterator.{AlwaysYields, YieldsThen, ComparesItemsByEq}
+use Rattle.std.specs.List.{AllZip}
+use Rattle.std.proofs.lemmas.Bool.{both_ways}
+use Rattle.std.proofs.lemmas.Iterator.{YieldsList}
 
-pub clash : false ≡ true → ⊥
-clash e = let z : ◌≡◌ {A = ℕ} 0 1 = cc in omega arith
+module _ {S T A : Type 0} (steps : S → Option A → S → Type 0) (others : T → Option A → T → Type 0) (eq : A → A → Bool) (decides : (x y : A) → Decides (eq x y) (x ≡ y)) (r : Bool) where
+  abbrev Last : Option A → Option A → Type 0
+  Last o p = MatchOption o (MatchOption p (r ≡ true) (λ _. r ≡ false)) (λ x. (r ≡ false) × IfSome p (λ y. eq x y ≡ false))
+
+  not_so : {P : Type 0} → r ≡ false → (P → ⊥) → Decides r P
+  not_so f n = (λ t. absurd (both_ways r f t), λ p. absurd (n p))
+
+  at_last : (o p : Option A) (xs ys : List A) (s u : S) (t w : T) → AlwaysYields steps (λ x. x) s xs → AlwaysYields others (λ x. x) t ys → steps s o u → others t p w → Last o p → Decides r (xs ≡ ys)
+  at_last None None (x ∷ xs) ys s u t w e f a b h = absurd (e.0 u a)
+  at_last None (Some y) (x ∷ xs) ys s u t w e f a b h = absurd (e.0 u a)
+  at_last (Some x) None [] ys s u t w e f a b h = absurd (e x u a)
+  at_last (Some x) (Some y) [] ys s u t w e f a b h = absurd (e x u a)
+  at_last None None [] (y ∷ ys) s u t w e f a b h = absurd (f.0 w b)
+  at_last None (Some y) [] [] s u t w e f a b h = absurd (f y w b)
+  at_last (Some x) None (z ∷ xs) (y ∷ ys) s u t w e f a b h = absurd (f.0 w b)
+  at_last (Some x) (Some y) (z ∷ xs) [] s u t w e f a b h = absurd (f y w b)
+  at_last None None [] [] s u t w e f a b h = (λ _. refl, λ _. h)
+  at_last None (Some y) [] (z ∷ ys) s u t w e f a b h = not_so h (λ k. cc)
+  at_last (Some x) None (z ∷ xs) [] s u t w e f a b h = not_so h.0 (λ k. cc)
+  at_last (Some x) (Some y) (x' ∷ xs) (y' ∷ ys) s u t w e f a b h =
+      let left = (e.1 x u a).0 in
+      let right = (f.1 y w b).0 in
+      not_so h.0 (λ k. let same : x ≡ y = cc in both_ways (eq x y) h.1 ((decides x y).1 same))
+
+  along : (cs bs : List A) (o p : Option A) (xs ys : List A) (s u : S) (t w : T) → AlwaysYields steps (λ x. x) s xs → AlwaysYields others (λ x. x) t ys
+      → YieldsThen steps s cs o u → YieldsThen others t bs p w → AllZip (λ x y. eq x y ≡ true) cs bs → Last o p → Decides r (xs ≡ ys)
+  along [] [] o p xs ys s u t w e f a b z h = at_last o p xs ys s u t w e f (subst (λ j. steps j o u) (sym a.1) a.2) (subst (λ j. others j p w) (sym b.1) b.2) h
+  along [] (y ∷ bs) o p xs ys s u t w e f a b z h = absurd z
+  along (x ∷ cs) [] o p xs ys s u t w e f a b z h = absurd z
+  along (x ∷ cs) (y ∷ bs) o p [] ys s u t w e f a b z h = absurd (e x a.1.0 a.1.1)
+  along (x ∷ cs) (y ∷ bs) o p (x' ∷ xs) [] s u t w e f a b z h = absurd (f y b.1.0 b.1.1)
+  along (x ∷ cs) (y ∷ bs) o p (x' ∷ xs) (y' ∷ ys) s u t w e f a b z h =
+      let m = e.1 x a.1.0 a.1.1 in
+      let n = f.1 y b.1.0 b.1.1 in
+      let here : x ≡ y = (decides x y).0 z.0 in
+      let rest = along cs bs o p xs ys a.1.0 u b.1.0 w m.1 n.1 (a.0, a.1.2, a.2) (b.0, b.1.2, b.2) z.1 h in
+      (λ t. ap₂ ◌∷◌ (sym m.0 ∙ here ∙ n.0) (rest.0 t), λ k. let tails : xs ≡ ys = cc in rest.1 tails)
+
+-- `eq` of two chains tells whether the lists that they give are the same
+pub same_from_eq : {S T A : Type 0} {steps : S → Option A → S → Type 0} {others : T → Option A → T → Type 0} {s : S} {eq : A → A → Bool} {xs ys : List A}
+    (other : T) (r : Bool) → ComparesItemsByEq steps (λ (x y : T). y ≡ x) others s other eq r
+    → YieldsList steps (λ x. x) s xs → YieldsList others (λ x. x) other ys → ((x y : A) → Decides (eq x y) (x ≡ y)) → Decides r (xs ≡ ys)
+same_from_eq {A = A} {steps = steps} {others = others} {s = s} {eq = eq} {xs = xs} {ys = ys} other r d e f decides =
+    along steps others eq decides r d.1 d.2 d.3 d.4 xs ys s d.5 d.0 d.6 e.runs (subst (λ it. AlwaysYields others (λ (x : A). x) it ys) (sym d.7) f.runs) d.8 d.9 d.10 d.11
 
 -- what is decided of a side's lines is decided of that side of the sheets
 pub decided_on : (d : Side) (s s' : State) (r : Bool) → Decides r (map line (on d s) ≡ map line (on d s')) → Decides r (on d (sheet s) ≡ on d (sheet s'))
 decided_on Buy s s' r h = h
 decided_on Sell s s' r h = h
-
-module _ {X : Type 0} (f : X → X) where
-  mapped_at : (xs : List X) (i : ℕ) (d : X) → i < length xs → slice_get (map f xs) i ≡ Some (f (get_or xs i d))
-  mapped_at [] i d h = absurd (omega arith)
-  mapped_at (x ∷ xs) zero d h = refl
-  mapped_at (x ∷ xs) (suc i) d h = mapped_at xs i d (omega arith)
-
-  -- the line at a place, or none past the end
-  pub line_there : (xs : List X) (i : ℕ) (x y : X) → i < length xs → ((d : X) → x ≡ get_or xs i d) → y ≡ f x → Some y ≡ slice_get (map f xs) i
-  line_there xs i x y h read e = ap Some (e ∙ ap f (read x)) ∙ sym (mapped_at xs i x h)
-
-  pub none_there : (xs : List X) (i : ℕ) → length xs ≤ i → None ≡ slice_get (map f xs) i
-  none_there xs i h = sym (slice_get_past (map f xs) i (omega (arith, length-map xs f)))
-
-  -- the first i lines are the same
-  abbrev pub SameTo : ℕ → List X → List X → Type 0
-  SameTo i xs ys = (k : ℕ) → k < i → (d : X) → f (get_or xs k d) ≡ f (get_or ys k d)
-
-  pub same_more : (xs ys : List X) (i : ℕ) (x y : X) → SameTo i xs ys → ((d : X) → x ≡ get_or xs i d) → ((d : X) → y ≡ get_or ys i d) → f x ≡ f y → SameTo (i + 1) xs ys
-  same_more xs ys i x y so_far at_x at_y e = below_more _ i so_far (λ d. ap f (sym (at_x d)) ∙ e ∙ ap f (at_y d))
-
-  all_same : (xs ys : List X) → length xs ≡ length ys → SameTo (length xs) xs ys → map f xs ≡ map f ys
-  all_same [] [] e h = refl
-  all_same [] (y ∷ ys) e h = absurd (omega arith)
-  all_same (x ∷ xs) [] e h = absurd (omega arith)
-  all_same (x ∷ xs) (y ∷ ys) e h = λ i. h 0 (omega arith) x i ∷ all_same xs ys (omega arith) (λ k l d. h (suc k) (omega arith) d) i
-
-  pub are_same : (xs ys : List X) (i : ℕ) → length xs ≡ length ys → length xs ≤ i → SameTo i xs ys → Decides true (map f xs ≡ map f ys)
-  are_same xs ys i e l h = (λ _. all_same xs ys e (λ k m d. h k (omega arith) d), λ _. refl)
-
-  unless_same : (xs ys : List X) → (map f xs ≡ map f ys → ⊥) → Decides false (map f xs ≡ map f ys)
-  unless_same xs ys h = (λ e. absurd (clash e), λ e. absurd (h e))
-
-  same_there : (xs ys : List X) (i : ℕ) (x y : X) → i < length xs → length xs ≡ length ys → ((d : X) → x ≡ get_or xs i d) → ((d : X) → y ≡ get_or ys i d) → map f xs ≡ map f ys → f x ≡ f y
-  same_there xs ys i x y h e at_x at_y m =
-      let z : ◌≡◌ {A = Option X} (Some (f x)) (Some (f y)) = line_there xs i x (f x) h at_x refl ∙ ap (λ l. slice_get l i) m ∙ sym (line_there ys i y (f y) (omega arith) at_y refl) in
-      cc
-
-  pub differ_there : (xs ys : List X) (i : ℕ) (x y : X) → i < length xs → length xs ≡ length ys → ((d : X) → x ≡ get_or xs i d) → ((d : X) → y ≡ get_or ys i d) → (f x ≡ f y → ⊥) → Decides false (map f xs ≡ map f ys)
-  differ_there xs ys i x y h e at_x at_y ne = unless_same xs ys (λ m. ne (same_there xs ys i x y h e at_x at_y m))
-
-  pub differ_in_length : (xs ys : List X) → (length xs ≡ length ys → ⊥) → Decides false (map f xs ≡ map f ys)
-  differ_in_length xs ys ne = unless_same xs ys (λ m. ne (sym (length-map xs f) ∙ ap length m ∙ length-map ys f))

@@ -13,7 +13,7 @@ use Rattle.resting.specs.declared.orders.OpenOrders.{OpenOrders}
 use Rattle.resting.specs.declared.orders.looks.Standing.{Standing}
 
 abbrev pub state_of : OpenOrders → State
-state_of o = state (lines_of o.buys) (lines_of o.sells) (lines_of o.routes) o.next
+state_of o = state (lines_of o.sides.buy) (lines_of o.sides.sell) (lines_of o.routes) o.next
 
 -- one more route, under the next number
 abbrev pub sent_out : Route → State → State

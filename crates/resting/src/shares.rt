@@ -1,5 +1,5 @@
 // What happens to the shares of one order: it is displayed, refreshed, cut, sent out and returned.
-ghost use Rattle.std.specs.Prelude.{◌≡◌, ◌≤◌, Decides};
+ghost use Rattle.std.specs.Prelude.{◌≡◌, ◌≤◌};
 ghost use Rattle.market.specs.Orders.{due, refresh, rested, remaining, entered, returned, routed, next_show};
 ghost use Rattle.market.specs.Sheets.{line, route_line};
 
@@ -42,12 +42,6 @@ pub fn on_sheet(p: Resting) -> Resting
     }
 }
 
-pub fn same_on_sheet(p: Resting, q: Resting) -> bool
-    ensures { Decides result (line p ≡ line q) }
-{
-    on_sheet(p) == on_sheet(q)
-}
-
 // A route as the route list has it: its show is at most the shares out, since no more can come back.
 pub fn on_route_list(x: Route) -> Route
     ensures { result ≡ route_line x }
@@ -56,12 +50,6 @@ pub fn on_route_list(x: Route) -> Route
         show: x.show.min(x.out),
         ..x
     }
-}
-
-pub fn same_on_route_list(x: Route, y: Route) -> bool
-    ensures { Decides result (route_line x ≡ route_line y) }
-{
-    on_route_list(x) == on_route_list(y)
 }
 
 // An entry as an order in hand.

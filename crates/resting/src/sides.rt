@@ -1,6 +1,6 @@
 // What a trade and a cut do to one side.
 ghost use Rattle.std.specs.Prelude.{◌≡◌, ◌<◌, ◌≤◌, length};
-ghost use Rattle.ranking.specs.Lists.{lines_of, most_of};
+ghost use Rattle.ranking.specs.Lists.{lines_of};
 ghost use Rattle.market.specs.Orders.{traded};
 ghost use Rattle.resting.specs.Sides.{first_shown, less_first, settle_first, trim_at, total_at};
 
@@ -9,20 +9,18 @@ use market::types::{Resting, Side};
 use ranking::list::RankedList;
 
 // Lessens the first order where it rests.
-fn lessen_first(list: &mut RankedList<Resting>, k: u32)
+fn lessen_first(list: &mut RankedList<Resting, 256>, k: u32)
     requires some { 0 < length (lines_of list.old) }
     requires few { k ≤ first_shown (lines_of list.old) }
-    ensures lines { lines_of list.new ≡ less_first k (lines_of list.old) }
-    ensures most { most_of list.new ≡ most_of list.old }
+    ensures { lines_of list.new ≡ less_first k (lines_of list.old) }
 {
     let first = list.line_mut(0);
     first.shown -= k;
 }
 
 // The first order, once lessened, is refreshed behind its price, goes, or stays where it rests.
-fn settle(list: &mut RankedList<Resting>, side: Side)
-    ensures lines { lines_of list.new ≡ settle_first side (lines_of list.old) }
-    ensures most { most_of list.new ≡ most_of list.old }
+fn settle(list: &mut RankedList<Resting, 256>, side: Side)
+    ensures { lines_of list.new ≡ settle_first side (lines_of list.old) }
 {
     if let Some(first) = list.first() {
         if is_due(first) {
@@ -35,10 +33,9 @@ fn settle(list: &mut RankedList<Resting>, side: Side)
 }
 
 // Trades k shares with the first order of a side.
-pub(crate) fn trade_first(list: &mut RankedList<Resting>, side: Side, k: u32)
+pub(crate) fn trade_first(list: &mut RankedList<Resting, 256>, side: Side, k: u32)
     requires { k ≤ first_shown (lines_of list.old) }
-    ensures lines { lines_of list.new ≡ traded side k (lines_of list.old) }
-    ensures most { most_of list.new ≡ most_of list.old }
+    ensures { lines_of list.new ≡ traded side k (lines_of list.old) }
 {
     if list.len() > 0 {
         lessen_first(list, k);
@@ -47,11 +44,10 @@ pub(crate) fn trade_first(list: &mut RankedList<Resting>, side: Side, k: u32)
 }
 
 // Cuts k shares of the order at a place: held shares first, then displayed ones. It keeps its place.
-pub(crate) fn trim_line(list: &mut RankedList<Resting>, place: usize, k: u32)
+pub(crate) fn trim_line(list: &mut RankedList<Resting, 256>, place: usize, k: u32)
     requires place { place < length (lines_of list.old) }
     requires few { k < total_at place (lines_of list.old) }
-    ensures lines { lines_of list.new ≡ trim_at place k (lines_of list.old) }
-    ensures most { most_of list.new ≡ most_of list.old }
+    ensures { lines_of list.new ≡ trim_at place k (lines_of list.old) }
 {
     let line = list.line_mut(place);
     let from_held = k.min(line.held);

@@ -1,15 +1,14 @@
 // What is read of the open orders.
-ghost use Rattle.std.specs.Prelude.{◌≡◌, ◌<◌, ◌≤◌, length, slice_index_or};
+ghost use Rattle.std.specs.Prelude.{◌≡◌, ◌<◌, ◌≤◌, not, length, slice_index_or};
 ghost use Rattle.std.specs.List.{slice_get};
-ghost use Rattle.ranking.specs.Place.{head_of, Found};
-ghost use Rattle.market.specs.States.{on, free, fits, route_bears};
+ghost use Rattle.ranking.specs.Place.{head_of, every, Found};
+ghost use Rattle.market.specs.States.{on, free, fits, owned, resting_bears, route_bears};
 ghost use Rattle.market.specs.Orders.{total};
 ghost use Rattle.market.specs.Steps.{no_route, side_full};
 ghost use Rattle.resting.specs.Orders.{state_of, Located};
 
 use super::OpenOrders;
 use market::legal::was_given;
-use market::ranks::{Numbered, Owned};
 use market::types::{Resting, Route, Side};
 
 // Where a resting order stands.
@@ -30,20 +29,14 @@ impl OpenOrders {
     pub fn first_on(&self, side: Side) -> Option<Resting>
         ensures { result ≡ head_of (on side (state_of self.now)) }
     {
-        match side {
-            Side::Buy => self.buys.first(),
-            Side::Sell => self.sells.first(),
-        }
+        self.sides.on(side).first()
     }
 
     // The resting order at a place of a side, or none past the end.
     pub fn line_on(&self, side: Side, place: usize) -> Option<Resting>
         ensures { result ≡ slice_get (on side (state_of self.now)) place }
     {
-        match side {
-            Side::Buy => self.buys.line(place),
-            Side::Sell => self.sells.line(place),
-        }
+        self.sides.on(side).line(place)
     }
 
     // The open route at a place, or none past the end.
@@ -65,10 +58,7 @@ impl OpenOrders {
         ensures value { (d : Resting) → result ≡ slice_index_or (on side (state_of self.now)) place d }
         ensures few { total result ≤ 999999 }
     {
-        match side {
-            Side::Buy => self.buys.line_at(place),
-            Side::Sell => self.sells.line_at(place),
-        }
+        self.sides.on(side).line_at(place)
     }
 
     // The open route at a place.
@@ -82,10 +72,7 @@ impl OpenOrders {
     pub fn count_on(&self, side: Side) -> usize
         ensures { result ≡ length (on side (state_of self.now)) }
     {
-        match side {
-            Side::Buy => self.buys.len(),
-            Side::Sell => self.sells.len(),
-        }
+        self.sides.on(side).len()
     }
 
     // Whether a side takes no more resting orders.
@@ -102,11 +89,20 @@ impl OpenOrders {
         self.routes.len() >= 64 || self.next == 0
     }
 
+    // Whether no resting order of a side bears this number.
+    fn is_free_on(&self, side: Side, number: u32) -> bool
+        ensures { result ≡ every (λ p. not (resting_bears number p)) (on side (state_of self.now)) }
+    {
+        self.sides.on(side).lacks(|p| p.number == number)
+    }
+
+    // Whether this number stands nowhere.
     fn is_free(&self, number: u32) -> bool
         ensures { result ≡ free number (state_of self.now) }
     {
-        let sought = Numbered(number);
-        self.buys.lacks(&sought) && self.sells.lacks(&sought) && self.routes.lacks(&sought)
+        self.is_free_on(Side::Buy, number)
+            && self.is_free_on(Side::Sell, number)
+            && self.routes.lacks(|r| r.number == number)
     }
 
     // Whether an order of this number may be worked: the number is given, and stands nowhere yet.
@@ -116,30 +112,29 @@ impl OpenOrders {
         was_given(number, self.next) && self.is_free(number)
     }
 
+    // The place on a side of the resting order of this user and number.
+    fn find_on(&self, side: Side, user: u32, number: u32) -> Option<usize>
+        ensures { Found (owned user number) (on side (state_of self.now)) result }
+    {
+        self.sides
+            .on(side)
+            .find(|p| p.number == number && p.user == user)
+    }
+
     // Where the resting order of this user and number stands.
     pub fn find(&self, user: u32, number: u32) -> Option<Standing>
         ensures { Located user number (state_of self.now) result }
     {
-        let sought = Owned { user, number };
-        if let Some(place) = self.buys.find(&sought) {
-            return Some(Standing {
-                side: Side::Buy,
-                place,
-            });
-        }
-        match self.sells.find(&sought) {
-            Some(place) => Some(Standing {
-                side: Side::Sell,
-                place,
-            }),
-            None => None,
-        }
+        let stands = |side| self
+            .find_on(side, user, number)
+            .map(|place| Standing { side, place });
+        stands(Side::Buy).or_else(|| stands(Side::Sell))
     }
 
     // Where the open route of this number stands.
     pub fn find_route(&self, number: u32) -> Option<usize>
         ensures { Found (route_bears number) (state_of self.now).routes result }
     {
-        self.routes.find(&Numbered(number))
+        self.routes.find(|r| r.number == number)
     }
 }

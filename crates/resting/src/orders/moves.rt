@@ -3,7 +3,7 @@ ghost use Rattle.std.specs.Prelude.{◌≡◌, ◌<◌, ◌≤◌, true, length,
 ghost use Rattle.ranking.specs.Place.{place, spot_at};
 ghost use Rattle.market.specs.Sides.{resting_before, across_of};
 ghost use Rattle.market.specs.States.{on, put, numbered, new_state, with_routes};
-ghost use Rattle.market.specs.Orders.{traded, routed, trimmed};
+ghost use Rattle.market.specs.Orders.{total, traded, routed, trimmed};
 ghost use Rattle.market.specs.Calls.{taken_out, changed_to, unrouted};
 ghost use Rattle.market.specs.Sound.{able};
 ghost use Rattle.soundness.specs.Rest.{Restable};
@@ -15,6 +15,7 @@ use crate::shares::to_route;
 use crate::sides::{trade_first, trim_line};
 use market::legal::number_after;
 use market::ranks::ByNumber;
+use market::sides::Sides;
 use market::types::{Order, Quotation, Resting, Route, Side};
 use ranking::list::RankedList;
 use std::alloc::{AllocError, Global};
@@ -24,12 +25,11 @@ impl OpenOrders {
     pub fn make(heap: Global, first: u32) -> Result<OpenOrders, AllocError>
         ensures { IfOk result (λ x. state_of x ≡ new_state first) }
     {
-        let buys = RankedList::make(heap, 256)?;
-        let sells = RankedList::make(heap, 256)?;
-        let routes = RankedList::make(heap, 64)?;
+        let buy = RankedList::make(heap)?;
+        let sell = RankedList::make(heap)?;
+        let routes = RankedList::make(heap)?;
         Ok(OpenOrders {
-            buys,
-            sells,
+            sides: Sides { buy, sell },
             routes,
             next: first,
         })
@@ -51,10 +51,7 @@ impl OpenOrders {
         requires { k ≤ first_shown (on side (state_of self.old)) }
         ensures { state_of self.new ≡ put side (traded side k (on side (state_of self.old))) (state_of self.old) }
     {
-        match side {
-            Side::Buy => trade_first(&mut self.buys, Side::Buy, k),
-            Side::Sell => trade_first(&mut self.sells, Side::Sell, k),
-        }
+        trade_first(self.sides.on_mut(side), side, k);
     }
 
     // Puts an order at its rank on a side.
@@ -63,10 +60,7 @@ impl OpenOrders {
         requires may { Restable side p (state_of self.old) }
         ensures { state_of self.new ≡ put side (place (resting_before side) p (on side (state_of self.old))) (state_of self.old) }
     {
-        match side {
-            Side::Buy => self.buys.insert(&Side::Buy, p),
-            Side::Sell => self.sells.insert(&Side::Sell, p),
-        }
+        self.sides.on_mut(side).insert(&side, p);
     }
 
     // Opens a route for k shares under the next number.
@@ -84,16 +78,14 @@ impl OpenOrders {
         number
     }
 
-    // Takes the order at a place of a side out.
+    // Takes the order at a place of a side out. Its shares add up to a legal size.
     pub fn take_out(&mut self, side: Side, place: usize) -> Resting
         requires { place < length (on side (state_of self.old)) }
         ensures value { (d : Resting) → result ≡ slice_index_or (on side (state_of self.old)) place d }
+        ensures few { total result ≤ 999999 }
         ensures state { state_of self.new ≡ taken_out (at_place side place (state_of self.old) result) (state_of self.old) }
     {
-        match side {
-            Side::Buy => self.buys.remove(place),
-            Side::Sell => self.sells.remove(place),
-        }
+        self.sides.on_mut(side).remove(place)
     }
 
     // Cuts k shares of the order at a place of a side, where it stands.
@@ -102,10 +94,7 @@ impl OpenOrders {
         requires few { k < total_at place (on side (state_of self.old)) }
         ensures { (d : Resting) → state_of self.new ≡ changed_to (trimmed k (slice_index_or (on side (state_of self.old)) place d)) (at_place side place (state_of self.old) d) (state_of self.old) }
     {
-        match side {
-            Side::Buy => trim_line(&mut self.buys, place, k),
-            Side::Sell => trim_line(&mut self.sells, place, k),
-        }
+        trim_line(self.sides.on_mut(side), place, k);
     }
 
     // Ends the open route at a place.

@@ -6,7 +6,7 @@ ghost use Rattle.market.specs.Sheets.{sheet, Equal};
 ghost use Rattle.resting.specs.Orders.{state_of};
 
 use super::OpenOrders;
-use crate::shares::{on_route_list, on_sheet, same_on_route_list, same_on_sheet};
+use crate::shares::{on_route_list, on_sheet};
 use market::types::{Resting, Route, Side};
 
 impl OpenOrders {
@@ -14,52 +14,36 @@ impl OpenOrders {
     pub fn sheet_line(&self, side: Side, place: usize) -> Option<Resting>
         ensures { result ≡ slice_get (on side (sheet (state_of self.now))) place }
     {
-        if place < self.count_on(side) {
-            Some(on_sheet(self.line_at(side, place)))
-        } else {
-            None
-        }
+        self.line_on(side, place).map(on_sheet)
     }
 
     // A line of the route list, or none past the end. Its show is at most the shares out.
     pub fn listed_route(&self, place: usize) -> Option<Route>
         ensures { result ≡ slice_get (sheet (state_of self.now)).routes place }
     {
-        if place < self.route_count() {
-            Some(on_route_list(self.route_at(place)))
-        } else {
-            None
-        }
+        self.route_line(place).map(on_route_list)
     }
 
     fn has_the_side_of(&self, other: &OpenOrders, side: Side) -> bool
         ensures { Decides result (on side (sheet (state_of self.now)) ≡ on side (sheet (state_of other.now))) }
     {
-        let count = self.count_on(side);
-        if count != other.count_on(side) {
-            return false;
-        }
-        for place in 0..count {
-            if !same_on_sheet(self.line_at(side, place), other.line_at(side, place)) {
-                return false;
-            }
-        }
-        true
+        let ours = self.sides.on(side).as_slice().iter().copied().map(on_sheet);
+        let theirs = other
+            .sides
+            .on(side)
+            .as_slice()
+            .iter()
+            .copied()
+            .map(on_sheet);
+        ours.eq(theirs)
     }
 
     fn has_the_routes_of(&self, other: &OpenOrders) -> bool
         ensures { Decides result ((sheet (state_of self.now)).routes ≡ (sheet (state_of other.now)).routes) }
     {
-        let count = self.route_count();
-        if count != other.route_count() {
-            return false;
-        }
-        for place in 0..count {
-            if !same_on_route_list(self.route_at(place), other.route_at(place)) {
-                return false;
-            }
-        }
-        true
+        let ours = self.routes.as_slice().iter().copied().map(on_route_list);
+        let theirs = other.routes.as_slice().iter().copied().map(on_route_list);
+        ours.eq(theirs)
     }
 
     // Whether the rank sheets, the route lists and the next numbers are the same.

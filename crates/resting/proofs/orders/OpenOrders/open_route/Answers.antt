@@ -9,10 +9,6 @@ use Rattle.resting.proofs.orders.OpenOrders.open_route.Goals as goal
 
 pub invariant_of-self : goal.invariant_of-self
 invariant_of-self c =
-    let b = c.args.self.now in
-    let e = c.insert.ensures in
-    record {
-      room = (b.room.0, b.room.1, e.most ∙ b.room.2);
-      sound = routed_as (lines_of b.buys) (lines_of b.sells) _ _ _ _ (e.lines ∙ ap (λ r. place route_before r (lines_of b.routes)) c.to_route.ensures) c.number_after-self.ensures
-          (sound_sent c.args.o c.args.q c.args.k (state_of b) c.requires.able c.requires.left c.requires.some.0 c.requires.some.1 b.sound);
-    }
+    let o = c.args.self.now in
+    let lines = c.insert.ensures.lines ∙ ap (λ r. place route_before r (lines_of o.routes)) c.to_route.ensures in
+    record { sound = routed_as (lines_of o.sides.buy) (lines_of o.sides.sell) _ _ _ _ lines c.number_after-self.ensures (sound_sent c.args.o c.args.q c.args.k (state_of o) c.requires.able c.requires.left c.requires.some.0 c.requires.some.1 o.sound) }

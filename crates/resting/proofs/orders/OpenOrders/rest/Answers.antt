@@ -1,20 +1,17 @@
-use Rattle.std.proofs.Common.{◌∙◌}
-use Rattle.market.specs.declared.types.Side.TheVariants.{Buy, Sell}
+use Rattle.std.proofs.Common.{◌≡◌, ap, ◌∙◌}
+use Rattle.ranking.specs.Lists.{lines_of}
+use Rattle.ranking.specs.Place.{place}
+use Rattle.market.specs.Sides.{resting_before}
+use Rattle.market.specs.States.{on}
 use Rattle.soundness.proofs.Keeps.{sound_placed}
 use Rattle.resting.specs.Orders.{state_of}
-use Rattle.resting.proofs.Sounds.{swapped, placed_as}
+use Rattle.resting.proofs.Sounds.{on_side, sound_put}
 use Rattle.resting.proofs.orders.OpenOrders.rest.Goals as goal
 
 pub invariant_of-self : goal.invariant_of-self
 invariant_of-self c =
-    let b = c.args.self.now in
-    let e = c.insert.ensures in
-    let h = sound_placed c.args.side c.args.p (state_of b) c.requires.may b.sound in
-    record { room = (e.most ∙ b.room.0, b.room.1, b.room.2); sound = swapped Buy (state_of b) _ _ e.lines (placed_as c.args.side Buy c.args.p (state_of b) c.in-Buy.is h) }
-
-pub invariant_of-self-in-Sell : goal.invariant_of-self-in-Sell
-invariant_of-self-in-Sell c =
-    let b = c.args.self.now in
-    let e = c.insert-in-Sell.ensures in
-    let h = sound_placed c.args.side c.args.p (state_of b) c.requires.may b.sound in
-    record { room = (b.room.0, e.most ∙ b.room.1, b.room.2); sound = swapped Sell (state_of b) _ _ e.lines (placed_as c.args.side Sell c.args.p (state_of b) c.in-Sell.is h) }
+    let d = c.args.side in
+    let o = c.args.self.now in
+    let there : lines_of c.on_mut.result.now ≡ on d (state_of o) = ap lines_of c.on_mut.ensures.value ∙ on_side d o in
+    let lines = c.insert.ensures.lines ∙ ap (place (resting_before d) c.args.p) there in
+    record { sound = sound_put d o c.insert.new.self _ lines (sound_placed d c.args.p (state_of o) c.requires.may o.sound) }

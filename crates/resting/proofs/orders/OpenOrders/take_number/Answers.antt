@@ -7,5 +7,5 @@ use Rattle.resting.proofs.orders.OpenOrders.take_number.Goals as goal
 
 pub invariant_of-self : goal.invariant_of-self
 invariant_of-self c =
-    let b = c.args.self.now in
-    record { room = b.room; sound = routed_as (lines_of b.buys) (lines_of b.sells) _ _ _ _ refl c.number_after-self.ensures (sound_numbered (state_of b) c.requires b.sound) }
+    let o = c.args.self.now in
+    record { sound = routed_as (lines_of o.sides.buy) (lines_of o.sides.sell) _ _ _ _ refl c.number_after-self.ensures (sound_numbered (state_of o) c.requires o.sound) }

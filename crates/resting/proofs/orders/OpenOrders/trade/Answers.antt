@@ -1,18 +1,16 @@
-use Rattle.std.proofs.Common.{◌∙◌}
-use Rattle.market.specs.declared.types.Side.TheVariants.{Buy, Sell}
+use Rattle.std.proofs.Common.{◌≡◌, ap, ◌∙◌}
+use Rattle.ranking.specs.Lists.{lines_of}
+use Rattle.market.specs.States.{on}
+use Rattle.market.specs.Orders.{traded}
 use Rattle.soundness.proofs.Keeps.{sound_traded}
 use Rattle.resting.specs.Orders.{state_of}
-use Rattle.resting.proofs.Sounds.{swapped}
+use Rattle.resting.proofs.Sounds.{on_side, sound_put}
 use Rattle.resting.proofs.orders.OpenOrders.trade.Goals as goal
 
 pub invariant_of-self : goal.invariant_of-self
 invariant_of-self c =
-    let b = c.args.self.now in
-    let e = c.trade_first.ensures in
-    record { room = (e.most ∙ b.room.0, b.room.1, b.room.2); sound = swapped Buy (state_of b) _ _ e.lines (sound_traded Buy c.args.k (state_of b) b.sound) }
-
-pub invariant_of-self-in-Sell : goal.invariant_of-self-in-Sell
-invariant_of-self-in-Sell c =
-    let b = c.args.self.now in
-    let e = c.trade_first-in-Sell.ensures in
-    record { room = (b.room.0, e.most ∙ b.room.1, b.room.2); sound = swapped Sell (state_of b) _ _ e.lines (sound_traded Sell c.args.k (state_of b) b.sound) }
+    let d = c.args.side in
+    let o = c.args.self.now in
+    let there : lines_of c.on_mut.result.now ≡ on d (state_of o) = ap lines_of c.on_mut.ensures.value ∙ on_side d o in
+    let lines = c.trade_first.ensures ∙ ap (traded d c.args.k) there in
+    record { sound = sound_put d o c.trade_first.new.list _ lines (sound_traded d c.args.k (state_of o) o.sound) }
