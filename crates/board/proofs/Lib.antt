@@ -1,5 +1,4 @@
 pub mod Firsts
-pub mod Places
 pub mod Pairs
 pub mod Those
 pub mod Lessening

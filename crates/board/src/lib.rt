@@ -13,6 +13,7 @@ ghost use Rattle.market.specs.Quotes.{quotation_legal, one_a_venue, Taken};
 use market::types::{Quotation, Refusal, Side};
 
 pub mod closed;
+pub mod lines;
 pub mod looks;
 
 // Whatever keeps quotations: a table of them, a layer over another board, or nothing at all.
