@@ -1,2 +1,2 @@
-mod Walking
 mod Bits
+pub mod Sifting

@@ -1,5 +1,6 @@
 -- Which lines a layer shows, and what its calls do.
-use Rattle.std.specs.Prelude.{◌≡◌, ℕ, ◌-◌, ◌/◌, ◌%◌, ◌^◌, Bool, true, false, not, ◌&&◌, ◌||◌, Some, None, Ok, Err, MatchBool, Option, Result, ◌==◌, nat_le}
+use Rattle.std.specs.Prelude.{◌≡◌, ℕ, ◌-◌, ◌^◌, Bool, true, false, not, ◌&&◌, ◌||◌, Some, None, Ok, Err, MatchBool, Option, Result, ◌==◌, nat_le}
+use Rattle.std.specs.Int.{bit_at}
 use Rattle.market.specs.declared.types.Side.{Side}
 use Rattle.market.specs.declared.types.Quotation.{Quotation}
 use Rattle.market.specs.declared.types.Refusal.{Refusal}
@@ -11,7 +12,14 @@ use Rattle.board.specs.Lines.{of_venue}
 
 -- the mark of venue v is bit v - 1 of the word
 abbrev pub marked : ℕ → ℕ → Bool
-marked w v = legal_venue v && w / 2 ^ (v - 1) % 2 == 1
+marked w v = legal_venue v && bit_at w (v - 1) == 1
+
+-- the bit of a venue's mark:
+-- 1. the word that has it alone
+-- 2. the venue is not from 1 to 64: refusal 11
+abbrev pub BitOf : ℕ → Result ℕ Refusal → Type 0
+BitOf v (Ok bit) = (legal_venue v ≡ true) × (bit ≡ 2 ^ (v - 1))
+BitOf v (Err why) = (legal_venue v ≡ false) × (why ≡ Venue)
 
 -- self-help shows the lines of venues that are not marked
 abbrev pub unmarked : ℕ → Quotation → Bool

@@ -2,6 +2,7 @@
 #![tactic(auto)]
 
 pub mod band;
+pub mod layer;
 mod marks;
 pub mod piles;
 pub mod screens;

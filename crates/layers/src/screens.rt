@@ -8,7 +8,7 @@ ghost use Rattle.market.specs.Quotes.{resized, Taken};
 ghost use Rattle.layers.specs.Shows.{TakenBelow};
 
 use board::Board;
-use board::looks::line_of;
+use board::looks::{line_of, lines};
 use market::types::{Quotation, Refusal, Side};
 
 pub trait Screen {
@@ -31,18 +31,9 @@ pub fn screened_line<B: Board, S: Screen>(
 ) -> Option<Quotation>
     ensures { result ≡ slice_get (those (S.passes screen.now) (quoted side (quotes_of (B.bids board.now) (B.offers board.now)))) place }
 {
-    let mut below: usize = 0;
-    let mut left = place;
-    while let Some(q) = board.line(side, below) {
-        if screen.lets_through(q) {
-            if left == 0 {
-                return Some(q);
-            }
-            left -= 1;
-        }
-        below += 1;
-    }
-    None
+    lines(board, side)
+        .filter(|q| screen.lets_through(*q))
+        .nth(place)
 }
 
 // Takes shares from a line that is shown; the board below answers.
@@ -56,10 +47,9 @@ pub fn screened_take<B: Board, S: Screen>(
     ensures shown { Taken side venue shares (quotes_of (those (S.passes screen.now) (B.bids board.old)) (those (S.passes screen.now) (B.offers board.old))) (quotes_of (those (S.passes screen.now) (B.bids board.new)) (those (S.passes screen.now) (B.offers board.new))) result }
     ensures below { TakenBelow (S.passes screen.now) side venue shares (quotes_of (B.bids board.old) (B.offers board.old)) (quotes_of (B.bids board.new) (B.offers board.new)) result }
 {
-    if let Some(q) = line_of(board, side, venue) {
-        if screen.lets_through(q) {
-            return board.take(side, venue, shares);
-        }
+    if line_of(board, side, venue).is_some_and(|q| screen.lets_through(q)) {
+        board.take(side, venue, shares)
+    } else {
+        Err(Refusal::NoSuchLine)
     }
-    Err(Refusal::NoSuchLine)
 }

@@ -1,33 +1,22 @@
-use Rattle.std.proofs.Common.{sym, ◌∙◌, arith}
-use Rattle.board.proofs.Places.{nth_in}
-use Rattle.layers.proofs.Walking.{shown_here, shown_past, hidden_past, shown_none}
+use Rattle.std.proofs.Common.{◌≡◌, Bool, cond, List, [], ◌∷◌, rules, tests, sym, refl, ap, ◌∙◌}
+use Rattle.std.specs.Iterator.{YieldsFirst}
+use Rattle.std.specs.List.{filter, slice_get}
+use Rattle.std.proofs.lemmas.Iterator.{YieldsList}
+use Rattle.std.proofs.lemmas.Iterator.Adapters.{option_map_id}
+use Rattle.std.proofs.lemmas.Iterator.Consumers.{YieldsList-from_first, YieldsList-from_filter, YieldsList-at, nth_from_yields_List}
+use Rattle.ranking.specs.Place.{those}
+use Rattle.market.specs.States.{quotes_of, quoted}
 use Rattle.layers.proofs.screens.screened_line.Goals as goal
-use Rattle.layers.proofs.screens.screened_line.Goals.{then-lets_through+else-left-eq0, else-lets_through}
 
-pub returns-then-left-eq0 : goal.returns-then-left-eq0
-returns-then-left-eq0 g c =
-    let p = g.S.Screen.passes c.args.screen.now in
-    let h = shown_here p _ c.loop-q.below c.in-Some.q (sym c.in-Some.ensures) (sym c.if-lets_through.ensures) in
-    sym (rw c.if-left-eq0.true at c.loop-q.invariant ∙ h)
-
-pub overflow_add-below : goal.overflow_add-below
-overflow_add-below g c =
-    let at = nth_in _ c.loop-q.below c.in-Some.q (sym c.in-Some.ensures) in
-    omega (arith, at, g.met.B.Board.few c.args.board.now c.args.side)
-
-pub loop-q-smaller : goal.loop-q-smaller
-loop-q-smaller g c = omega (arith, nth_in _ c.loop-q.below c.in-Some.q (sym c.in-Some.ensures))
-
-pub loop-q-preserved : goal.loop-q-preserved
-loop-q-preserved g c =
-    let p = g.S.Screen.passes c.args.screen.now in
-    let e = sym c.in-Some.ensures in
-    elim c.if-lets_through.branch [
-      | then-lets_through+else-left-eq0 w ↦ rw w.left-is (c.loop-q.invariant ∙ shown_past p _ c.loop-q.below c.in-Some.q e c.loop-q.left (sym w.if-lets_through.ensures) (omega (arith, w.if-left-eq0.false)))
-      | else-lets_through w ↦ rw w.left-is (c.loop-q.invariant ∙ hidden_past p _ c.loop-q.below c.in-Some.q e c.loop-q.left (sym w.if-lets_through.ensures))
-    ]
+-- those that pass are what `filter` gives
+those_are : {X : Type 0} (p : X → Bool) (xs : List X) → filter p xs ≡ those p xs
+those_are p [] = refl
+those_are p (x ∷ xs) = ap (λ ys. cond (p x) (x ∷ ys) ys) (those_are p xs)
 
 pub returns : goal.returns
 returns g c =
     let p = g.S.Screen.passes c.args.screen.now in
-    sym (c.loop-q.invariant ∙ shown_none p _ c.loop-q.below c.loop-q.left (sym c.in_default.ensures))
+    let xs = quoted c.args.side (quotes_of (g.B.Board.bids c.args.board.now) (g.B.Board.offers c.args.board.now)) in
+    let below : YieldsList (YieldsFirst (λ rest. rest)) (λ q. q) c.lines.result xs = YieldsList-from_first (λ q. q) (λ rest. rest) xs c.lines.ensures in
+    let found = nth_from_yields_List c.nth.result c.nth.new.self c.args.place c.nth.ensures.ran (YieldsList-from_filter _ p (YieldsList-at c.filter.ensures.source below) c.filter.ensures.closure (λ x b q k. search (rules, tests))) in
+    sym (option_map_id c.nth.result) ∙ found ∙ ap (λ qs. slice_get qs c.args.place) (those_are p xs)

@@ -1,46 +1,21 @@
-use Rattle.std.proofs.Common.{◌≡◌, false, sym, ap, ◌∙◌}
-use Rattle.market.specs.States.{quotes_of, quoted}
-use Rattle.board.specs.Lines.{of_venue}
+use Rattle.std.proofs.Common.{◌≡◌, rules, sym, ap, ◌∙◌}
+use Rattle.market.specs.States.{quotes_of}
 use Rattle.layers.specs.Shows.{is_shown}
-use Rattle.layers.specs.Sifting.{taken_shown, below_shown, taken_hidden, below_hidden}
+use Rattle.layers.proofs.Sifting.{taken_shown, taken_hidden}
 use Rattle.layers.proofs.screens.screened_take.Goals as goal
 
-pub returns-then-lets_through : goal.returns-then-lets_through
-returns-then-lets_through g c =
+pub returns-then-is_some_and-clause-shown : goal.returns-then-is_some_and-clause-shown
+returns-then-is_some_and-clause-shown g c =
     let m = g.B.Board in
     let p = g.S.Screen.passes c.args.screen.now in
-    let sizeless = g.met.S.Screen.sizeless c.args.screen.now in
     let b = quotes_of (m.bids c.args.board.now) (m.offers c.args.board.now) in
-    let venues = g.met.B.Board.venues c.args.board.now c.args.side in
-    let found = sym c.in-Some.ensures in
-    let shown = sym c.if-lets_through.ensures in
-    record {
-      shown = taken_shown p sizeless c.args.side c.args.venue c.args.shares b venues c.in-Some.q found shown _ _ c.take.ensures;
-      below = below_shown p sizeless c.args.side c.args.venue c.args.shares b venues c.in-Some.q found shown _ _ c.take.ensures;
-    }
+    let asked : c.is_some_and.result ≡ is_shown p c.line_of.result = search rules in
+    taken_shown p (g.met.S.Screen.sizeless c.args.screen.now) c.args.side c.args.venue c.args.shares b (g.met.B.Board.venues c.args.board.now c.args.side) _ _ (sym (ap (is_shown p) c.line_of.ensures) ∙ sym asked ∙ c.if-is_some_and.true) c.take.ensures
 
-pub returns-else-lets_through : goal.returns-else-lets_through
-returns-else-lets_through g c =
+pub returns-else-is_some_and-clause-shown : goal.returns-else-is_some_and-clause-shown
+returns-else-is_some_and-clause-shown g c =
     let m = g.B.Board in
     let p = g.S.Screen.passes c.args.screen.now in
-    let sizeless = g.met.S.Screen.sizeless c.args.screen.now in
     let b = quotes_of (m.bids c.args.board.now) (m.offers c.args.board.now) in
-    let venues = g.met.B.Board.venues c.args.board.now c.args.side in
-    let hidden : is_shown p (of_venue c.args.venue (quoted c.args.side b)) ≡ false = ap (is_shown p) (sym c.in-Some.ensures) ∙ sym c.if-lets_through.ensures in
-    record {
-      shown = taken_hidden p sizeless c.args.side c.args.venue c.args.shares b venues hidden (Unit {0});
-      below = below_hidden p sizeless c.args.side c.args.venue c.args.shares b venues hidden (Unit {0});
-    }
-
-pub returns-in_default : goal.returns-in_default
-returns-in_default g c =
-    let m = g.B.Board in
-    let p = g.S.Screen.passes c.args.screen.now in
-    let sizeless = g.met.S.Screen.sizeless c.args.screen.now in
-    let b = quotes_of (m.bids c.args.board.now) (m.offers c.args.board.now) in
-    let venues = g.met.B.Board.venues c.args.board.now c.args.side in
-    let hidden : is_shown p (of_venue c.args.venue (quoted c.args.side b)) ≡ false = ap (is_shown p) (sym c.in_default.ensures) in
-    record {
-      shown = taken_hidden p sizeless c.args.side c.args.venue c.args.shares b venues hidden (Unit {0});
-      below = below_hidden p sizeless c.args.side c.args.venue c.args.shares b venues hidden (Unit {0});
-    }
+    let asked : c.is_some_and.result ≡ is_shown p c.line_of.result = search rules in
+    taken_hidden p (g.met.S.Screen.sizeless c.args.screen.now) c.args.side c.args.venue c.args.shares b (g.met.B.Board.venues c.args.board.now c.args.side) (Unit {0}) (sym (ap (is_shown p) c.line_of.ensures) ∙ sym asked ∙ c.if-is_some_and.false)

@@ -1,8 +1,7 @@
-use Rattle.std.proofs.Common.{sym}
 use Rattle.layers.proofs.Bits.{mark_set}
 use Rattle.layers.proofs.marks.Marks.set.Goals as goal
 
 pub returns : goal.returns
 returns c =
-    let legal = sym c.if-not-is_legal_venue.ensures in
-    (legal, mark_set c.args.self.now.word c.args.venue legal)
+    let bit = c.in_ok-self-inside.ensures in
+    rw (bit.1, ← c.self.view_is) (bit.0, mark_set c.self.inside.word c.args.venue bit.0)
