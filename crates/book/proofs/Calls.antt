@@ -1,7 +1,8 @@
 -- Each way through a call gives the outcome that the model defines.
-use Rattle.std.proofs.Common.{◌≡◌, ℕ, ◌+◌, ◌<◌, ◌≤◌, true, false, cond, eqb, leb, List, [], ◌∷◌, ◌++◌, get_or, take, drop, Some, None, sym, refl, ap, ◌∙◌, subst, arith}
+use Rattle.std.proofs.Common.{◌≡◌, ℕ, ◌+◌, ◌<◌, ◌≤◌, true, false, cond, eqb, leb, List, [], ◌∷◌, ◌++◌, get_or, take, drop, Some, None, Ok, Err, Option, sym, refl, ap, ◌∙◌, subst, arith}
 use Rattle.std.proofs.lemmas.Bool.{cond-true, cond-false, eq-eqb, ne_eqb, lt-ltb, le-ltb, le-leb, lt-leb}
-use Rattle.ranking.specs.Place.{Spot, locate}
+use Rattle.std.specs.Option.{ok_or}
+use Rattle.ranking.specs.Place.{Spot, spot_at, Found}
 use Rattle.market.specs.declared.types.Side.{Side}
 use Rattle.market.specs.declared.types.Side.TheVariants.{Buy, Sell}
 use Rattle.market.specs.declared.types.Resting.{Resting}
@@ -10,78 +11,90 @@ use Rattle.market.specs.declared.types.Order.{Order}
 use Rattle.market.specs.declared.types.Terms.{Terms}
 use Rattle.market.specs.declared.types.Report.{Report}
 use Rattle.market.specs.declared.types.Reason.TheVariants.{Cancelled, Cut as Trimmed, Replaced, Expired}
-use Rattle.market.specs.declared.types.Refusal.TheVariants.{User, NotResting, CutTooLarge, NotOut, ReplyTooLarge, NumbersUsedUp}
-use Rattle.market.specs.Legal.{legal_user}
+use Rattle.market.specs.declared.types.Refusal.{Refusal}
+use Rattle.market.specs.declared.types.Refusal.TheVariants.{WrongPass, User, Size, CutTooLarge, ReplyTooLarge}
+use Rattle.market.specs.declared.types.Call.{Call}
+use Rattle.market.specs.Legal.{legal_user, legal_size}
 use Rattle.market.specs.States.{State, Quotes, numbered, route_bears, on, put}
 use Rattle.market.specs.Orders.{total, trimmed, entered, returned}
 use Rattle.market.specs.Reports.{in_report, off_report, off_hand, back_report}
-use Rattle.market.specs.Calls.{ready, ended, in_hand, Outcome, refuse, answer, unless, numbers_refusal, terms_refusal, cancel_refusal, cut_refusal, admit, Place, find, taken_out, changed_to, cancel_at, cancel_call, cut_at, cut_call, replace_at, replace_call, reply_at, reply_call, late_reply_at, late_reply_call, late_reports, hand_back, unrouted, expire_from, expire_call}
-use Rattle.resting.specs.Orders.{at_place}
-use Rattle.book.specs.Outcomes.{late_list}
+use Rattle.market.specs.Calls.{Pass, ready, ended, in_hand, Outcome, refuse, answer, unless, verdict, call, numbers_refusal, terms_refusal, cut_refusal, admit, Place, find, taken_out, changed_to, cancel_at, cancel_call, cut_at, cut_call, replace_at, replace_call, reply_at, reply_call, late_reply_at, late_reply_call, late_reports, hand_back, unrouted, expire_from, expire_call}
+use Rattle.resting.specs.Orders.{at_place, Located}
+use Rattle.resting.specs.declared.orders.looks.Standing.{Standing}
+use Rattle.resting.proofs.Sounds.{no_order}
+use Rattle.book.specs.declared.book.Book.{Book}
+use Rattle.book.specs.Outcomes.{book_state, seen, own_call}
+use Rattle.book.specs.Moves.{Removes, off_list}
 use Rattle.book.specs.Expiry.{first_of_two, oldest_side}
-use Rattle.book.proofs.Checks.{refused_by, passed_by, numbers, no_numbers}
+use Rattle.book.proofs.Verdicts.{passes, fails, first_passes}
 
--- enter
+-- a call with a pass of the book's own is the model's
+pub owned : (b : Book) (id bears : ℕ) (q : Quotes) (c : Call) (p : Pass) (o : Outcome) → Ok tt ≡ verdict (unless (eqb bears b.id) WrongPass) → id ≡ b.id → o ≡ call q c (book_state b) p → record { book = id; bears = bears; outcome = o } ≡ own_call b bears q c p
+owned b id bears q c p o h e w =
+    ap (λ (n : ℕ). record { book = n; bears = bears; outcome = o }) e
+    ∙ ap (seen b bears) (passes (book_state b) q p (unless (eqb bears b.id) WrongPass) (call q c (book_state b) p) o h w)
 
-pub enter_done : (d : Side) (t : Terms) (s s' : State) (q : Quotes) (n : ℕ) (o : Order) (r : Report) → n ≡ s.next → o ≡ entered d t n → r ≡ in_report o → s' ≡ numbered s → answer (r ∷ []) s' q (in_hand o) ≡ admit [] d t s q
-enter_done d t s s' q n o r en eo er es =
-    let e : o ≡ entered d t s.next = eo ∙ ap (entered d t) en in
-    ap (λ z. answer (z ∷ []) s' q (in_hand o)) er ∙ ap (λ z. answer (in_report z ∷ []) s' q (in_hand z)) e ∙ ap (λ z. answer (in_report (entered d t s.next) ∷ []) z q (in_hand (entered d t s.next))) es
+-- what is found is found
+some_of : {X : Type 0} (r : Option X) (why : Refusal) (x : X) → Ok x ≡ ok_or r why → r ≡ Some x
+some_of None why x h = grind arith
+some_of (Some y) why x h = let same : x ≡ y = cc in ap Some (sym same)
 
--- a resting order found at a place
+pub located : (user n : ℕ) (s : State) (r : Option Standing) (why : Refusal) (at : Standing) → Ok at ≡ ok_or r why → Located user n s r → Located user n s (Some at)
+located user n s r why at h l = let P : Option Standing → Type 0 = λ x. Located user n s x in subst P (some_of r why at h) l
+
+pub found_route : (n : ℕ) (s : State) (r : Option ℕ) (why : Refusal) (i : ℕ) → Ok i ≡ ok_or r why → Found (route_bears n) s.routes r → Found (route_bears n) s.routes (Some i)
+found_route n s r why i h l = let P : Option ℕ → Type 0 = λ x. Found (route_bears n) s.routes x in subst P (some_of r why i h) l
 
 module _ (s : State) (q : Quotes) where
-  cancel_checked : (user n : ℕ) → true ≡ legal_user user → (o : Outcome) → o ≡ cancel_at (find user n s) s q → o ≡ cancel_call user n s q
-  cancel_checked user n l o e = passed_by s q ready (cancel_at (find user n s) s q) (cancel_refusal user) o (ap (λ t. unless t User) l) e
+  -- a resting order found at a place
+  module _ (user n : ℕ) (at : Standing) (f : Located user n s (Some at)) where
+    pub cancel_done : (r : Report) (s' : State) → Ok tt ≡ verdict (unless (legal_user user) User) → ((x : Resting) → Removes Cancelled (at_place at.side at.place s x) s s' r) → answer (r ∷ []) s' q ready ≡ cancel_call user n s q
+    cancel_done r s' l m =
+        passes s q ready (unless (legal_user user) User) (cancel_at (find user n s) s q) _ l
+        (ap (λ z. answer (z ∷ []) s' q ready) (m no_order).0 ∙ ap (λ z. answer (off_report Cancelled (total p.spot.line) p.side p.spot.line ∷ []) z q ready) (m no_order).1
+        ∙ sym (ap (λ y. cancel_at y s q) (f.1 no_order)))
+      where
+        p : Place
+        p = at_place at.side at.place s no_order
 
-  pub cancel_done : (user n : ℕ) (p : Place) (x : Resting) (r : Report) (s' : State) → true ≡ legal_user user → find user n s ≡ Some p → x ≡ p.spot.line → r ≡ off_report Cancelled (total x) p.side x → s' ≡ taken_out p s → answer (r ∷ []) s' q ready ≡ cancel_call user n s q
-  cancel_done user n p x r s' l f ex er es =
-      ap (λ z. answer (z ∷ []) s' q ready) (er ∙ ap (λ z. off_report Cancelled (total z) p.side z) ex) ∙ ap (λ z. answer (off_report Cancelled (total p.spot.line) p.side p.spot.line ∷ []) z q ready) es
-      ∙ cancel_checked user n l _ (sym (ap (λ y. cancel_at y s q) f))
+    module _ (k : ℕ) (x : Resting) (l : Ok tt ≡ verdict (unless (legal_user user) User)) (m : Ok tt ≡ verdict (unless (legal_size k) Size)) (ex : x ≡ get_or (on at.side s) at.place x) where
+      abbrev pub p : Place
+      p = at_place at.side at.place s x
 
-  cut_checked : (k user n : ℕ) → None ≡ cut_refusal k user → (o : Outcome) → o ≡ cut_at k (find user n s) s q → o ≡ cut_call k user n s q
-  cut_checked k user n l o e = passed_by s q ready (cut_at k (find user n s) s q) (cut_refusal k user) o l e
+      cut_checked : (o : Outcome) → o ≡ cut_at k (find user n s) s q → o ≡ cut_call k user n s q
+      cut_checked o e = passes s q ready (cut_refusal k user) (cut_at k (find user n s) s q) o (m ∙ sym (first_passes (unless (legal_user user) User) (unless (legal_size k) Size) l)) e
 
-  pub cut_none : (k user n : ℕ) → None ≡ cut_refusal k user → find user n s ≡ None → refuse NotResting s q ready ≡ cut_call k user n s q
-  cut_none k user n l f = cut_checked k user n l _ (sym (ap (λ x. cut_at k x s q) f))
+      pub cut_large : total x ≤ k → refuse CutTooLarge s q ready ≡ cut_call k user n s q
+      cut_large h =
+          cut_checked _ (sym (ap (λ y. cut_at k y s q) (f.1 x) ∙ cond-false _ _ _ (le-ltb k (total p.spot.line) (subst (λ (z : Resting). total z ≤ k) ex h))))
 
-  pub cut_large : (k user n : ℕ) (p : Place) (x : Resting) → None ≡ cut_refusal k user → find user n s ≡ Some p → x ≡ p.spot.line → total x ≤ k → refuse CutTooLarge s q ready ≡ cut_call k user n s q
-  cut_large k user n p x l f ex h =
-      cut_checked k user n l _ (sym (ap (λ y. cut_at k y s q) f ∙ cond-false _ _ _ (le-ltb k (total p.spot.line) (subst (λ (z : Resting). total z ≤ k) ex h))))
+      pub cut_done : (r : Report) (s' : State) → k < total x → r ≡ off_report Trimmed k at.side x → s' ≡ changed_to (trimmed k p.spot.line) p s → answer (r ∷ []) s' q ready ≡ cut_call k user n s q
+      cut_done r s' h er es =
+          ap (λ z. answer (z ∷ []) s' q ready) (er ∙ ap (off_report Trimmed k at.side) ex) ∙ ap (λ z. answer (off_report Trimmed k at.side p.spot.line ∷ []) z q ready) es
+          ∙ cut_checked _ (sym (ap (λ y. cut_at k y s q) (f.1 x) ∙ cond-true _ _ _ (lt-ltb k (total p.spot.line) (subst (λ (z : Resting). k < total z) ex h))))
 
-  pub cut_done : (k user n : ℕ) (p : Place) (x : Resting) (r : Report) (s' : State) → None ≡ cut_refusal k user → find user n s ≡ Some p → x ≡ p.spot.line → k < total x → r ≡ off_report Trimmed k p.side x → s' ≡ changed_to (trimmed k p.spot.line) p s → answer (r ∷ []) s' q ready ≡ cut_call k user n s q
-  cut_done k user n p x r s' l f ex h er es =
-      ap (λ z. answer (z ∷ []) s' q ready) (er ∙ ap (off_report Trimmed k p.side) ex) ∙ ap (λ z. answer (off_report Trimmed k p.side p.spot.line ∷ []) z q ready) es
-      ∙ cut_checked k user n l _ (sym (ap (λ y. cut_at k y s q) f ∙ cond-true _ _ _ (lt-ltb k (total p.spot.line) (subst (λ (z : Resting). k < total z) ex h))))
+  module _ (t : Terms) (n : ℕ) (at : Standing) (f : Located t.user n s (Some at)) (l : Ok tt ≡ verdict (terms_refusal t)) where
+    replace_checked : (o : Outcome) → o ≡ replace_at t (find t.user n s) s q → o ≡ replace_call t n s q
+    replace_checked o e = passes s q ready (terms_refusal t) (replace_at t (find t.user n s) s q) o l e
 
-  replace_checked : (t : Terms) (n : ℕ) → None ≡ terms_refusal t → (o : Outcome) → o ≡ replace_at t (find t.user n s) s q → o ≡ replace_call t n s q
-  replace_checked t n l o e = passed_by s q ready (replace_at t (find t.user n s) s q) (terms_refusal t) o l e
+    pub replace_used : (why : Refusal) → Err why ≡ verdict (numbers_refusal s) → refuse why s q ready ≡ replace_call t n s q
+    replace_used why h = replace_checked _ (fails s q ready (numbers_refusal s) why _ h ∙ sym (ap (λ y. replace_at t y s q) (f.1 no_order)))
 
-  pub replace_none : (t : Terms) (n : ℕ) → None ≡ terms_refusal t → find t.user n s ≡ None → refuse NotResting s q ready ≡ replace_call t n s q
-  replace_none t n l f = replace_checked t n l _ (sym (ap (λ x. replace_at t x s q) f))
-
-  pub replace_used : (t : Terms) (n : ℕ) (p : Place) → None ≡ terms_refusal t → find t.user n s ≡ Some p → s.next ≡ 0 → refuse NumbersUsedUp s q ready ≡ replace_call t n s q
-  replace_used t n p l f z = replace_checked t n l _ (refused_by s q ready _ (numbers_refusal s) NumbersUsedUp (no_numbers s z) ∙ sym (ap (λ x. replace_at t x s q) f))
-
-  pub replace_done : (t : Terms) (n : ℕ) (p : Place) (x : Resting) (new : ℕ) (o : Order) (off r : Report) (s₁ s₂ : State) → None ≡ terms_refusal t → find t.user n s ≡ Some p → x ≡ p.spot.line → (s.next ≡ 0 → ⊥) → off ≡ off_report Replaced (total x) p.side x → s₁ ≡ taken_out p s → new ≡ s₁.next → o ≡ entered p.side t new → r ≡ in_report o → s₂ ≡ numbered s₁ → answer (off ∷ r ∷ []) s₂ q (in_hand o) ≡ replace_call t n s q
-  replace_done t n p x new o off r s₁ s₂ l f ex z eoff e₁ en eo er e₂ =
-      let a : off ≡ off_report Replaced (total p.spot.line) p.side p.spot.line = eoff ∙ ap (λ y. off_report Replaced (total y) p.side y) ex in
-      let b : o ≡ entered p.side t s₁.next = eo ∙ ap (entered p.side t) en in
-      let c : answer (off ∷ r ∷ []) s₂ q (in_hand o) ≡ admit (off ∷ []) p.side t s₁ q =
-      ap (λ y. answer (off ∷ y ∷ []) s₂ q (in_hand o)) er ∙ ap (λ y. answer (off ∷ in_report y ∷ []) s₂ q (in_hand y)) b ∙ ap (λ y. answer (off ∷ in_report (entered p.side t s₁.next) ∷ []) y q (in_hand (entered p.side t s₁.next))) e₂
-      in
-      c ∙ ap (λ y. admit (y ∷ []) p.side t s₁ q) a ∙ ap (λ y. admit (off_report Replaced (total p.spot.line) p.side p.spot.line ∷ []) p.side t y q) e₁
-      ∙ replace_checked t n l _ (passed_by s q ready _ (numbers_refusal s) _ (numbers s z) refl ∙ sym (ap (λ y. replace_at t y s q) f))
+    pub replace_done : (x : Order × Report) (off : Report) (s₁ s₂ : State) → Ok tt ≡ verdict (numbers_refusal s) → ((y : Resting) → Removes Replaced (at_place at.side at.place s y) s s₁ off) → x.0 ≡ entered at.side t s₁.next → x.1 ≡ in_report (entered at.side t s₁.next) → s₂ ≡ numbered s₁ → answer (off ∷ x.1 ∷ []) s₂ q (in_hand x.0) ≡ replace_call t n s q
+    replace_done x off s₁ s₂ h m e₀ e₁ e₂ =
+        let p : Place = at_place at.side at.place s no_order in
+        let r : Report = off_report Replaced (total p.spot.line) p.side p.spot.line in
+        let c : answer (off ∷ x.1 ∷ []) s₂ q (in_hand x.0) ≡ admit (off ∷ []) p.side t s₁ q =
+        ap (λ y. answer (off ∷ y ∷ []) s₂ q (in_hand x.0)) e₁ ∙ ap (λ y. answer (off ∷ in_report (entered p.side t s₁.next) ∷ []) s₂ q (in_hand y)) e₀ ∙ ap (λ y. answer (off ∷ in_report (entered p.side t s₁.next) ∷ []) y q (in_hand (entered p.side t s₁.next))) e₂
+        in
+        c ∙ ap (λ y. admit (y ∷ []) p.side t s₁ q) (m no_order).0 ∙ ap (λ y. admit (r ∷ []) p.side t y q) (m no_order).1
+        ∙ replace_checked _ (passes s q ready (numbers_refusal s) _ _ h refl ∙ sym (ap (λ y. replace_at t y s q) (f.1 no_order)))
 
   -- a route found
+  module _ (k n i : ℕ) (x : Route) (f : Found (route_bears n) s.routes (Some i)) (ex : x ≡ get_or s.routes i x) where
+    abbrev r : Spot Route
+    r = spot_at s.routes i x
 
-  pub reply_none : (k n : ℕ) → locate (route_bears n) s.routes ≡ None → refuse NotOut s q ready ≡ reply_call k n s q
-  reply_none k n f = sym (ap (λ x. reply_at k x s q) f)
-
-  pub late_none : (k n : ℕ) → locate (route_bears n) s.routes ≡ None → refuse NotOut s q ended ≡ late_reply_call k n s q
-  late_none k n f = sym (ap (λ x. late_reply_at k x s q) f)
-
-  module _ (k n : ℕ) (r : Spot Route) (x : Route) (f : locate (route_bears n) s.routes ≡ Some r) (ex : x ≡ r.line) where
     some_large : x.out < k → leb k r.line.out ≡ false
     some_large h = lt-leb k r.line.out (subst (λ (z : Route). z.out < k) ex h)
 
@@ -89,61 +102,59 @@ module _ (s : State) (q : Quotes) where
     some_small h = le-leb k r.line.out (subst (λ (z : Route). k ≤ z.out) ex h)
 
     pub reply_large : x.out < k → refuse ReplyTooLarge s q ready ≡ reply_call k n s q
-    reply_large h = sym (ap (λ y. reply_at k y s q) f ∙ cond-false _ _ _ (some_large h))
+    reply_large h = sym (ap (λ y. reply_at k y s q) (f.1 x) ∙ cond-false _ _ _ (some_large h))
 
     pub late_large : x.out < k → refuse ReplyTooLarge s q ended ≡ late_reply_call k n s q
-    late_large h = sym (ap (λ y. late_reply_at k y s q) f ∙ cond-false _ _ _ (some_large h))
+    late_large h = sym (ap (λ y. late_reply_at k y s q) (f.1 x) ∙ cond-false _ _ _ (some_large h))
 
     reply_small : k ≤ x.out → answer (back_report k r.line ∷ []) (unrouted r s) q (hand_back k r.line) ≡ reply_call k n s q
-    reply_small h = sym (ap (λ y. reply_at k y s q) f ∙ cond-true _ _ _ (some_small h))
+    reply_small h = sym (ap (λ y. reply_at k y s q) (f.1 x) ∙ cond-true _ _ _ (some_small h))
 
     late_small : k ≤ x.out → answer (late_reports k r.line) (unrouted r s) q ended ≡ late_reply_call k n s q
-    late_small h = sym (ap (λ y. late_reply_at k y s q) f ∙ cond-true _ _ _ (some_small h))
+    late_small h = sym (ap (λ y. late_reply_at k y s q) (f.1 x) ∙ cond-true _ _ _ (some_small h))
 
-    pub reply_filled : (rep : Report) (s' : State) → x.out ≡ k → rep ≡ back_report k x → s' ≡ unrouted r s → answer (rep ∷ []) s' q ready ≡ reply_call k n s q
-    reply_filled rep s' h er es =
-        let g : eqb r.line.out k ≡ true = eq-eqb r.line.out k (ap (λ z. z.out) (sym ex) ∙ h) in
-        ap (λ z. answer (z ∷ []) s' q ready) (er ∙ ap (back_report k) ex) ∙ ap (λ z. answer (back_report k r.line ∷ []) z q ready) es
-        ∙ sym (ap (λ t. answer (back_report k r.line ∷ []) (unrouted r s) q (cond t ready (in_hand (returned k r.line)))) g) ∙ reply_small (omega arith)
+    module _ (rep : Report) (s' : State) (er : rep ≡ back_report k x) (es : s' ≡ unrouted (spot_at s.routes i x) s) where
+      pub reply_filled : k ≡ x.out → answer (rep ∷ []) s' q ready ≡ reply_call k n s q
+      reply_filled h =
+          let g : eqb r.line.out k ≡ true = eq-eqb r.line.out k (sym (h ∙ ap (λ z. z.out) ex)) in
+          ap (λ z. answer (z ∷ []) s' q ready) (er ∙ ap (back_report k) ex) ∙ ap (λ z. answer (back_report k r.line ∷ []) z q ready) es
+          ∙ sym (ap (λ t. answer (back_report k r.line ∷ []) (unrouted r s) q (cond t ready (in_hand (returned k r.line)))) g) ∙ reply_small (omega arith)
 
-    pub reply_returned : (rep : Report) (s' : State) (o : Order) → k ≤ x.out → (x.out ≡ k → ⊥) → rep ≡ back_report k x → s' ≡ unrouted r s → o ≡ returned k x → answer (rep ∷ []) s' q (in_hand o) ≡ reply_call k n s q
-    reply_returned rep s' o l h er es eo =
-        let g : eqb r.line.out k ≡ false = ne_eqb r.line.out k (λ e. h (ap (λ z. z.out) ex ∙ e)) in
-        ap (λ z. answer (z ∷ []) s' q (in_hand o)) (er ∙ ap (back_report k) ex) ∙ ap (λ z. answer (back_report k r.line ∷ []) z q (in_hand o)) es ∙ ap (λ z. answer (back_report k r.line ∷ []) (unrouted r s) q (in_hand z)) (eo ∙ ap (returned k) ex)
-        ∙ sym (ap (λ t. answer (back_report k r.line ∷ []) (unrouted r s) q (cond t ready (in_hand (returned k r.line)))) g) ∙ reply_small l
+      pub late_filled : k ≡ x.out → answer (rep ∷ []) s' q ended ≡ late_reply_call k n s q
+      late_filled h =
+          let g : eqb r.line.out k ≡ true = eq-eqb r.line.out k (sym (h ∙ ap (λ z. z.out) ex)) in
+          ap (λ z. answer (z ∷ []) s' q ended) (er ∙ ap (back_report k) ex) ∙ ap (λ z. answer (back_report k r.line ∷ []) z q ended) es
+          ∙ sym (ap (λ t. answer (back_report k r.line ∷ cond t [] (off_hand Expired (returned k r.line) ∷ [])) (unrouted r s) q ended) g) ∙ late_small (omega arith)
 
-    pub late_filled : (rep : Report) (s' : State) → x.out ≡ k → rep ≡ back_report k x → s' ≡ unrouted r s → answer (rep ∷ late_list None) s' q ended ≡ late_reply_call k n s q
-    late_filled rep s' h er es =
-        let g : eqb r.line.out k ≡ true = eq-eqb r.line.out k (ap (λ z. z.out) (sym ex) ∙ h) in
-        ap (λ z. answer (z ∷ []) s' q ended) (er ∙ ap (back_report k) ex) ∙ ap (λ z. answer (back_report k r.line ∷ []) z q ended) es
-        ∙ sym (ap (λ t. answer (back_report k r.line ∷ cond t [] (off_hand Expired (returned k r.line) ∷ [])) (unrouted r s) q ended) g) ∙ late_small (omega arith)
+      pub reply_returned : (o : Order) → k ≤ x.out → (k ≡ x.out → ⊥) → o ≡ returned k x → answer (rep ∷ []) s' q (in_hand o) ≡ reply_call k n s q
+      reply_returned o l h eo =
+          let g : eqb r.line.out k ≡ false = ne_eqb r.line.out k (λ e. h (sym (ap (λ z. z.out) ex ∙ e))) in
+          ap (λ z. answer (z ∷ []) s' q (in_hand o)) (er ∙ ap (back_report k) ex) ∙ ap (λ z. answer (back_report k r.line ∷ []) z q (in_hand o)) es ∙ ap (λ z. answer (back_report k r.line ∷ []) (unrouted r s) q (in_hand z)) (eo ∙ ap (returned k) ex)
+          ∙ sym (ap (λ t. answer (back_report k r.line ∷ []) (unrouted r s) q (cond t ready (in_hand (returned k r.line)))) g) ∙ reply_small l
 
-    pub late_returned : (rep off : Report) (s' : State) (o : Order) → k ≤ x.out → (x.out ≡ k → ⊥) → rep ≡ back_report k x → s' ≡ unrouted r s → o ≡ returned k x → off ≡ off_hand Expired o → answer (rep ∷ late_list (Some off)) s' q ended ≡ late_reply_call k n s q
-    late_returned rep off s' o l h er es eo ef =
-        let g : eqb r.line.out k ≡ false = ne_eqb r.line.out k (λ e. h (ap (λ z. z.out) ex ∙ e)) in
-        let d : off ≡ off_hand Expired (returned k r.line) = ef ∙ ap (off_hand Expired) (eo ∙ ap (returned k) ex) in
-        ap (λ z. answer (z ∷ off ∷ []) s' q ended) (er ∙ ap (back_report k) ex) ∙ ap (λ z. answer (back_report k r.line ∷ z ∷ []) s' q ended) d ∙ ap (λ z. answer (back_report k r.line ∷ off_hand Expired (returned k r.line) ∷ []) z q ended) es
-        ∙ sym (ap (λ t. answer (back_report k r.line ∷ cond t [] (off_hand Expired (returned k r.line) ∷ [])) (unrouted r s) q ended) g) ∙ late_small l
+      pub late_returned : (o : Order) → k ≤ x.out → (k ≡ x.out → ⊥) → o ≡ returned k x → answer (rep ∷ off_list (Some o)) s' q ended ≡ late_reply_call k n s q
+      late_returned o l h eo =
+          let g : eqb r.line.out k ≡ false = ne_eqb r.line.out k (λ e. h (sym (ap (λ z. z.out) ex ∙ e))) in
+          ap (λ z. answer (z ∷ off_list (Some o)) s' q ended) (er ∙ ap (back_report k) ex) ∙ ap (λ z. answer (back_report k r.line ∷ off_hand Expired z ∷ []) s' q ended) (eo ∙ ap (returned k) ex) ∙ ap (λ z. answer (back_report k r.line ∷ off_hand Expired (returned k r.line) ∷ []) z q ended) es
+          ∙ sym (ap (λ t. answer (back_report k r.line ∷ cond t [] (off_hand Expired (returned k r.line) ∷ [])) (unrouted r s) q ended) g) ∙ late_small l
 
 -- the first order of a side expires
 
-expired : (xs ys : List Resting) (d : Side) (s s' : State) (q : Quotes) (x : Resting) (r : Report) → Some d ≡ first_of_two s.buys s.sells → x ≡ get_or (on d s) 0 x → r ≡ off_report Expired (total x) d x → s' ≡ taken_out (at_place d 0 s x) s → s.buys ≡ xs → s.sells ≡ ys → answer (r ∷ []) s' q ended ≡ expire_from xs ys s q
-expired [] [] d s s' q x r e ex er es eb ey =
+expired : (xs ys : List Resting) (d : Side) (s s' : State) (q : Quotes) (r : Report) → Some d ≡ first_of_two s.buys s.sells → Removes Expired (at_place d 0 s no_order) s s' r → s.buys ≡ xs → s.sells ≡ ys → answer (r ∷ []) s' q ended ≡ expire_from xs ys s q
+expired [] [] d s s' q r e m eb ey =
     let z : Some d ≡ None = e ∙ ap (λ l. first_of_two l s.sells) eb ∙ ap (first_of_two []) ey in grind arith
-expired [] (y ∷ ys) d s s' q x r e ex er es eb ey =
+expired [] (y ∷ ys) d s s' q r e m eb ey =
     let z : Some d ≡ Some Sell = e ∙ ap (λ l. first_of_two l s.sells) eb ∙ ap (first_of_two []) ey in
     let ed : d ≡ Sell = cc in
-    let exy : x ≡ y = ex ∙ ap (λ w. get_or (on w s) 0 x) ed ∙ ap (λ l. get_or l 0 x) ey in
-    let es' : s' ≡ put Sell ys s = es ∙ ap (λ w. taken_out (at_place w 0 s x) s) ed ∙ ap (λ l. put Sell (take 0 l ++ drop (0 + 1) l) s) ey in
-    let er' : r ≡ off_report Expired (total y) Sell y = er ∙ ap (λ w. off_report Expired (total x) w x) ed ∙ ap (λ w. off_report Expired (total w) Sell w) exy in
-    ap (λ w. answer (w ∷ []) s' q ended) er' ∙ ap (λ w. answer (off_report Expired (total y) Sell y ∷ []) w q ended) es'
-expired (y ∷ xs) ys d s s' q x r e ex er es eb ey =
+    let es : s' ≡ put Sell ys s = m.1 ∙ ap (λ w. taken_out (at_place w 0 s no_order) s) ed ∙ ap (λ l. put Sell (take 0 l ++ drop (0 + 1) l) s) ey in
+    let er : r ≡ off_report Expired (total y) Sell y = m.0 ∙ ap (λ w. off_report Expired (total (get_or (on w s) 0 no_order)) w (get_or (on w s) 0 no_order)) ed ∙ ap (λ l. off_report Expired (total (get_or l 0 no_order)) Sell (get_or l 0 no_order)) ey in
+    ap (λ w. answer (w ∷ []) s' q ended) er ∙ ap (λ w. answer (off_report Expired (total y) Sell y ∷ []) w q ended) es
+expired (y ∷ xs) ys d s s' q r e m eb ey =
     let z : Some d ≡ Some Buy = e ∙ ap (λ l. first_of_two l s.sells) eb in
     let ed : d ≡ Buy = cc in
-    let exy : x ≡ y = ex ∙ ap (λ w. get_or (on w s) 0 x) ed ∙ ap (λ l. get_or l 0 x) eb in
-    let es' : s' ≡ put Buy xs s = es ∙ ap (λ w. taken_out (at_place w 0 s x) s) ed ∙ ap (λ l. put Buy (take 0 l ++ drop (0 + 1) l) s) eb in
-    let er' : r ≡ off_report Expired (total y) Buy y = er ∙ ap (λ w. off_report Expired (total x) w x) ed ∙ ap (λ w. off_report Expired (total w) Buy w) exy in
-    ap (λ w. answer (w ∷ []) s' q ended) er' ∙ ap (λ w. answer (off_report Expired (total y) Buy y ∷ []) w q ended) es'
+    let es : s' ≡ put Buy xs s = m.1 ∙ ap (λ w. taken_out (at_place w 0 s no_order) s) ed ∙ ap (λ l. put Buy (take 0 l ++ drop (0 + 1) l) s) eb in
+    let er : r ≡ off_report Expired (total y) Buy y = m.0 ∙ ap (λ w. off_report Expired (total (get_or (on w s) 0 no_order)) w (get_or (on w s) 0 no_order)) ed ∙ ap (λ l. off_report Expired (total (get_or l 0 no_order)) Buy (get_or l 0 no_order)) eb in
+    ap (λ w. answer (w ∷ []) s' q ended) er ∙ ap (λ w. answer (off_report Expired (total y) Buy y ∷ []) w q ended) es
 
-pub expire_done : (d : Side) (s s' : State) (q : Quotes) (x : Resting) (r : Report) → Some d ≡ oldest_side s → x ≡ get_or (on d s) 0 x → r ≡ off_report Expired (total x) d x → s' ≡ taken_out (at_place d 0 s x) s → answer (r ∷ []) s' q ended ≡ expire_call s q
-expire_done d s s' q x r e ex er es = expired s.buys s.sells d s s' q x r e ex er es refl refl
+pub expire_done : (d : Side) (side : Option Side) (why : Refusal) (s s' : State) (q : Quotes) (r : Report) → Ok d ≡ ok_or side why → side ≡ oldest_side s → ((x : Resting) → Removes Expired (at_place d 0 s x) s s' r) → answer (r ∷ []) s' q ended ≡ expire_call s q
+expire_done d side why s s' q r h e m = expired s.buys s.sells d s s' q r (sym (some_of side why d h) ∙ e) (m no_order) refl refl

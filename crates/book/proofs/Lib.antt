@@ -1,4 +1,4 @@
-pub mod Checks
+pub mod Verdicts
 pub mod Calls
 pub mod Hands
 pub mod Runs

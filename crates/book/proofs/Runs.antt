@@ -5,6 +5,8 @@ use Rattle.market.specs.declared.types.Order.{Order}
 use Rattle.market.specs.declared.types.Report.{Report}
 use Rattle.market.specs.States.{State, Quotes}
 use Rattle.market.specs.Steps.{Run, step, run}
+use Rattle.book.specs.declared.book.Book.{Book}
+use Rattle.book.specs.Outcomes.{book_state}
 use Rattle.book.specs.Works.{Did, Ran}
 
 -- reports written before a run
@@ -23,8 +25,10 @@ module _ (l₀ : List Report) where
   abbrev pub Along : Run → List Report → ℕ → Option Order → State → Quotes → Type 0
   Along t l n o s q = (drop n l ≡ drop n l₀) × (before_run (take n l) (run (length l₀ - n) o s q) ≡ t)
 
-  pub along_on : (t : Run) (l : List Report) (n : ℕ) (o : Order) (s s' : State) (q q' : Quotes) (r : Report × Option Order) (left : Option Order) → r.1 ≡ left → n < length l → length l ≡ length l₀ → Along t l n (Some o) s q → Did (step s q o) s' q' r → Along t (set l n r.0) (n + 1) left s' q'
-  along_on t l n o s s' q q' r left w h e (d, a) (r0, r1, rs, rq) =
+  pub along_on : (t : Run) (l : List Report) (n : ℕ) (o : Order) (k k' : Book) (q q' : Quotes) (r : Report × Option Order) (left : Option Order) → r.1 ≡ left → n < length l → length l ≡ length l₀ → Along t l n (Some o) (book_state k) q → Did (step (book_state k) q o) k k' q' r → Along t (set l n r.0) (n + 1) left (book_state k') q'
+  along_on t l n o k k' q q' r left w h e (d, a) (_, r0, r1, rs, rq) =
+      let s = book_state k in
+      let s' = book_state k' in
       let b = length l₀ - (n + 1) in
       let fewer : length l₀ - n ≡ suc b = omega arith in
       let x : drop (n + 1) (set l n r.0) ≡ drop (n + 1) l = drop-set-lt (n + 1) l n r.0 (omega arith) in

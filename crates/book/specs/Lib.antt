@@ -1,4 +1,5 @@
 pub mod Outcomes
 pub mod Houses
 pub mod Expiry
+pub mod Moves
 pub mod Works

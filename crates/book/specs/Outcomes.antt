@@ -1,17 +1,18 @@
 -- What a caller sees of a call, as the model's outcome.
-use Rattle.std.specs.Prelude.{ℕ, Bool, cond, List, [], ◌∷◌, Some, None, Ok, Err, Option, Result}
+use Rattle.std.specs.Prelude.{ℕ, List, [], ◌∷◌, Some, None, Ok, Err, Option, Result, ◌==◌}
 use Rattle.market.specs.declared.types.Call.{Call}
 use Rattle.market.specs.declared.types.Order.{Order}
 use Rattle.market.specs.declared.types.Report.{Report}
 use Rattle.market.specs.declared.types.Refusal.{Refusal}
 use Rattle.market.specs.declared.types.Refusal.TheVariants.{WrongPass}
 use Rattle.market.specs.States.{State, Quotes}
-use Rattle.market.specs.Calls.{Pass, ready, ended, in_hand, Outcome, refuse, answer, call}
+use Rattle.market.specs.Calls.{Pass, ready, ended, in_hand, Outcome, refuse, answer, unless, checked, call}
 use Rattle.resting.specs.Orders.{state_of}
 use Rattle.book.specs.declared.book.Book.{Book}
 use Rattle.book.specs.declared.passes.Ready.{Ready}
 use Rattle.book.specs.declared.passes.InHand.{InHand}
 use Rattle.book.specs.declared.passes.Ended.{Ended}
+use Rattle.book.specs.declared.passes.Refused.{Refused}
 use Rattle.book.specs.declared.passes.Next.{Next}
 use Rattle.book.specs.declared.passes.Next.TheVariants.{Done, More}
 
@@ -34,74 +35,73 @@ ended_book p = p.book
 abbrev pub order_of : InHand → Order
 order_of p = p.order
 
--- a call, where own says that the pass is this book's: another book's pass is refusal 1, before all others
-abbrev pub own_call : Bool → Quotes → Call → State → Pass → Outcome
-own_call own q c s p = cond own (call q c s p) (refuse WrongPass s q p)
+-- what a caller has of a call: the outcome, with the number that the book bears afterwards and the number that the pass bears
+pub record Seen : Type 0 where
+  pub book : ℕ
+  pub bears : ℕ
+  pub outcome : Outcome
+
+-- by the book afterwards
+abbrev pub seen : Book → ℕ → Outcome → Seen
+seen b bears o = record { book = b.id; bears = bears; outcome = o }
+
+-- a call on the book b with a pass that bears a number: another book's pass is refusal 1, before all others; both numbers stay
+abbrev pub own_call : Book → ℕ → Quotes → Call → Pass → Seen
+own_call b bears q c p = seen b bears (checked (unless (bears == b.id) WrongPass) (book_state b) q p (call q c (book_state b) p))
 
 -- the pass that comes back
 abbrev pub next_pass : Next → Pass
 next_pass (Done r) = ready
 next_pass (More h) = in_hand h.order
 
+-- what it has in hand
+abbrev pub left_in : Next → Option Order
+left_in (Done r) = None
+left_in (More h) = Some h.order
+
 abbrev pub next_book : Next → ℕ
 next_book (Done r) = r.book
 next_book (More h) = h.book
 
--- enter
-abbrev pub entered_as : Result (InHand × Report) (Refusal × Ready) → State → Quotes → Outcome
-entered_as (Ok (hand, report)) s q = answer (report ∷ []) s q (in_hand hand.order)
-entered_as (Err (why, back)) s q = refuse why s q ready
+-- refused: the reason, with the pass handed back
+abbrev pub refused_as : Refused Ready → Book → Quotes → Seen
+refused_as r b q = seen b r.pass.book (refuse r.why (book_state b) q ready)
 
-abbrev pub entered_book : Result (InHand × Report) (Refusal × Ready) → ℕ
-entered_book (Ok (hand, report)) = hand.book
-entered_book (Err (why, back)) = back.book
+-- enter
+abbrev pub entered_as : Result (InHand × Report) (Refused Ready) → Book → Quotes → Seen
+entered_as (Ok (hand, report)) b q = seen b hand.book (answer (report ∷ []) (book_state b) q (in_hand hand.order))
+entered_as (Err r) b q = refused_as r b q
 
 -- replace: off, then in
-abbrev pub replaced_as : Result (InHand × Report × Report) (Refusal × Ready) → State → Quotes → Outcome
-replaced_as (Ok (hand, off, entered)) s q = answer (off ∷ entered ∷ []) s q (in_hand hand.order)
-replaced_as (Err (why, back)) s q = refuse why s q ready
+abbrev pub replaced_as : Result (InHand × Report × Report) (Refused Ready) → Book → Quotes → Seen
+replaced_as (Ok (hand, off, entered)) b q = seen b hand.book (answer (off ∷ entered ∷ []) (book_state b) q (in_hand hand.order))
+replaced_as (Err r) b q = refused_as r b q
 
-abbrev pub replaced_book : Result (InHand × Report × Report) (Refusal × Ready) → ℕ
-replaced_book (Ok (hand, off, entered)) = hand.book
-replaced_book (Err (why, back)) = back.book
-
--- cut, cancel and expire, which only borrow their pass p
-abbrev pub reported_as : Pass → Result Report Refusal → State → Quotes → Outcome
-reported_as p (Ok report) s q = answer (report ∷ []) s q p
-reported_as p (Err why) s q = refuse why s q p
+-- cut, cancel and expire, which only borrow their pass p and the number that it bears
+abbrev pub reported_as : Pass → ℕ → Result Report Refusal → Book → Quotes → Seen
+reported_as p bears (Ok report) b q = seen b bears (answer (report ∷ []) (book_state b) q p)
+reported_as p bears (Err why) b q = seen b bears (refuse why (book_state b) q p)
 
 -- reply under Ready
-abbrev pub replied_as : Result (Next × Report) (Refusal × Ready) → State → Quotes → Outcome
-replied_as (Ok (next, report)) s q = answer (report ∷ []) s q (next_pass next)
-replied_as (Err (why, back)) s q = refuse why s q ready
-
-abbrev pub replied_book : Result (Next × Report) (Refusal × Ready) → ℕ
-replied_book (Ok (next, report)) = next_book next
-replied_book (Err (why, back)) = back.book
+abbrev pub replied_as : Result (Next × Report) (Refused Ready) → Book → Quotes → Seen
+replied_as (Ok (next, report)) b q = seen b (next_book next) (answer (report ∷ []) (book_state b) q (next_pass next))
+replied_as (Err r) b q = refused_as r b q
 
 -- reply under Ended: the back, then the off of what comes back unfilled, if any
 abbrev pub late_list : Option Report → List Report
 late_list None = []
 late_list (Some off) = off ∷ []
 
-abbrev pub late_as : Result (Report × Option Report) Refusal → State → Quotes → Outcome
-late_as (Ok (report, off)) s q = answer (report ∷ late_list off) s q ended
-late_as (Err why) s q = refuse why s q ended
+abbrev pub late_as : ℕ → Result (Report × Option Report) Refusal → Book → Quotes → Seen
+late_as bears (Ok (report, off)) b q = seen b bears (answer (report ∷ late_list off) (book_state b) q ended)
+late_as bears (Err why) b q = seen b bears (refuse why (book_state b) q ended)
 
 -- close
-abbrev pub closed_as : Result Ended (Refusal × Ready) → State → Quotes → Outcome
-closed_as (Ok e) s q = answer [] s q ended
-closed_as (Err (why, back)) s q = refuse why s q ready
-
-abbrev pub closed_book : Result Ended (Refusal × Ready) → ℕ
-closed_book (Ok e) = e.book
-closed_book (Err (why, back)) = back.book
+abbrev pub closed_as : Result Ended (Refused Ready) → Book → Quotes → Seen
+closed_as (Ok e) b q = seen b e.book (answer [] (book_state b) q ended)
+closed_as (Err r) b q = refused_as r b q
 
 -- work
-abbrev pub worked_as : Result (Next × Report) (Refusal × InHand) → State → Quotes → Outcome
-worked_as (Ok (next, report)) s q = answer (report ∷ []) s q (next_pass next)
-worked_as (Err (why, back)) s q = refuse why s q (in_hand back.order)
-
-abbrev pub worked_book : Result (Next × Report) (Refusal × InHand) → ℕ
-worked_book (Ok (next, report)) = next_book next
-worked_book (Err (why, back)) = back.book
+abbrev pub worked_as : Result (Next × Report) (Refused InHand) → Book → Quotes → Seen
+worked_as (Ok (next, report)) b q = seen b (next_book next) (answer (report ∷ []) (book_state b) q (next_pass next))
+worked_as (Err r) b q = seen b r.pass.book (refuse r.why (book_state b) q (in_hand r.pass.order))

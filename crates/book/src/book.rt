@@ -5,6 +5,7 @@ pub mod changes;
 pub mod ends;
 pub mod enters;
 pub mod looks;
+mod moves;
 pub mod replies;
 pub mod works;
 

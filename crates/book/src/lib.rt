@@ -2,6 +2,7 @@
 #![tactic(auto)]
 
 pub mod book;
+mod checks;
 pub mod house;
 pub mod passes;
 mod reports;

@@ -1,8 +1,9 @@
 // The passes: who may call next. None is copied or dropped, so each is handed on once.
-ghost use Rattle.std.specs.Prelude.{◌≡◌, true};
+ghost use Rattle.std.specs.Prelude.{◌≡◌, true, IfSome};
+ghost use Rattle.market.specs.Calls.{held_by};
 ghost use Rattle.market.specs.Sound.{able};
 
-use market::types::Order;
+use market::types::{Order, Refusal};
 
 // The book waits for a call.
 pub struct Ready {
@@ -28,11 +29,47 @@ pub enum Next {
     More(InHand),
 }
 
+// A call that is refused hands its pass back.
+pub struct Refused<P> {
+    pub why: Refusal,
+    pub pass: P,
+}
+
 impl InHand {
+    ghost use Rattle.book.specs.Outcomes.{next_pass, next_book, left_in};
+
     // The order in hand.
     pub fn order(&self) -> Order
         ensures { result ≡ self.now.order }
     {
         self.order
+    }
+
+    // The pass once a step has left so much of the order in hand.
+    pub(crate) fn hand_on(self, left: Option<Order>) -> Next
+        requires { IfSome left (λ o. able o ≡ true) }
+        ensures pass { next_pass result ≡ held_by left }
+        ensures left { left_in result ≡ left }
+        ensures book { next_book result ≡ self.book }
+    {
+        let InHand { book, order: _ } = self;
+        Next::with(book, left)
+    }
+}
+
+impl Next {
+    ghost use Rattle.book.specs.Outcomes.{next_pass, next_book, left_in};
+
+    // The pass of a book when this is left in hand.
+    pub(crate) fn with(book: u32, left: Option<Order>) -> Next
+        requires { IfSome left (λ o. able o ≡ true) }
+        ensures pass { next_pass result ≡ held_by left }
+        ensures left { left_in result ≡ left }
+        ensures book { next_book result ≡ book }
+    {
+        match left {
+            None => Next::Done(Ready { book }),
+            Some(order) => Next::More(InHand { book, order }),
+        }
     }
 }

@@ -1,5 +1,5 @@
 -- Every call, as one function of the book, the board and the pass.
-use Rattle.std.specs.Prelude.{ℕ, Bool, cond, not, List, [], ◌∷◌, ◌++◌, Some, None, Option, ◌==◌, nat_le, nat_lt}
+use Rattle.std.specs.Prelude.{ℕ, Bool, cond, not, List, [], ◌∷◌, ◌++◌, Some, None, Ok, Err, Option, Result, ◌==◌, nat_le, nat_lt}
 use Rattle.ranking.specs.Place.{Spot, locate}
 use Rattle.market.specs.declared.types.Side.{Side}
 use Rattle.market.specs.declared.types.Side.TheVariants.{Buy, Sell}
@@ -45,6 +45,11 @@ answer rs s q p = record { says = reports rs; state = s; quotes = q; pass = p }
 -- checks, one after another: the first that fails refuses
 abbrev pub unless : Bool → Refusal → Option Refusal
 unless ok why = cond ok None (Some why)
+
+-- what a check answers
+abbrev pub verdict : Option Refusal → Result (Unit {0}) Refusal
+verdict None = Ok tt
+verdict (Some why) = Err why
 
 abbrev pub or_else : Option Refusal → Option Refusal → Option Refusal
 or_else (Some why) o = Some why

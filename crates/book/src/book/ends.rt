@@ -1,28 +1,28 @@
 // The end of trading: close and expire.
-ghost use Rattle.std.specs.Prelude.{◌≡◌, Option, ◌==◌};
+ghost use Rattle.std.specs.Prelude.{◌≡◌, Option};
 ghost use Rattle.market.specs.declared.types.Call.TheVariants.{Close, Expire};
 ghost use Rattle.market.specs.States.{Quotes};
 ghost use Rattle.market.specs.Calls.{ready, ended};
-ghost use Rattle.book.specs.Outcomes.{book_state, own_call, reported_as, closed_as, closed_book};
+ghost use Rattle.book.specs.Outcomes.{book_state, own_call, reported_as, closed_as};
 ghost use Rattle.book.specs.Expiry.{oldest_side};
 
 use super::Book;
-use crate::passes::{Ended, Ready};
-use crate::reports::off_report_of;
+use crate::passes::{Ended, Ready, Refused};
 use market::types::{Reason, Refusal, Report, Side};
+use resting::orders::looks::Standing;
 
 impl Book {
     // Ends trading: Ready becomes Ended.
-    pub fn close(&mut self, pass: Ready) -> Result<Ended, (Refusal, Ready)>
-        ensures outcome { (q : Quotes) → closed_as result (book_state self.new) q ≡ own_call (pass.book == self.old.id) q Close (book_state self.old) ready }
-        ensures pass { closed_book result ≡ pass.book }
-        ensures id { self.new.id ≡ self.old.id }
+    pub fn close(&mut self, pass: Ready) -> Result<Ended, Refused<Ready>>
+        ensures { (q : Quotes) → closed_as result self.new q ≡ own_call self.old pass.book q Close ready }
     {
-        if pass.book != self.id {
-            return Err((Refusal::WrongPass, pass));
+        match self.owns(pass.book) {
+            Err(why) => Err(Refused { why, pass }),
+            Ok(()) => {
+                let Ready { book } = pass;
+                Ok(Ended { book })
+            }
         }
-        let Ready { book } = pass;
-        Ok(Ended { book })
     }
 
     // The side of which the first order expires next: buys before sells.
@@ -40,20 +40,11 @@ impl Book {
 
     // Takes the first buy off, or where there is none the first sell.
     pub fn expire(&mut self, pass: &Ended) -> Result<Report, Refusal>
-        ensures outcome { (q : Quotes) → reported_as ended result (book_state self.new) q ≡ own_call (pass.now.book == self.old.id) q Expire (book_state self.old) ended }
-        ensures id { self.new.id ≡ self.old.id }
+        ensures { (q : Quotes) → reported_as ended pass.now.book result self.new q ≡ own_call self.old pass.now.book q Expire ended }
     {
-        if pass.book != self.id {
-            return Err(Refusal::WrongPass);
-        }
-        match self.expiring_side() {
-            None => Err(Refusal::NothingResting),
-            Some(side) => {
-                let line = self.orders.line_at(side, 0);
-                self.orders.take_out(side, 0);
-                Ok(off_report_of(Reason::Expired, line.shown + line.held, side, line))
-            }
-        }
+        self.owns(pass.book)?;
+        let side = self.expiring_side().ok_or(Refusal::NothingResting)?;
+        Ok(self.take_off(Reason::Expired, Standing { side, place: 0 }))
     }
 
     // Lets a book go with its pass.

@@ -1,35 +1,18 @@
 // Making a book, and taking an order in hand: enter and replace.
-ghost use Rattle.std.specs.Prelude.{◌≡◌, IfOk, ◌==◌};
+ghost use Rattle.std.specs.Prelude.{◌≡◌, true, IfOk};
 ghost use Rattle.market.specs.declared.types.Call.TheVariants.{Enter, Replace};
 ghost use Rattle.market.specs.States.{Quotes, new_state};
-ghost use Rattle.market.specs.Calls.{ready, terms_refusal, enter_refusal};
-ghost use Rattle.book.specs.Outcomes.{book_state, own_call, entered_as, entered_book, replaced_as, replaced_book};
+ghost use Rattle.market.specs.Calls.{ready};
+ghost use Rattle.market.specs.Sound.{able};
+ghost use Rattle.book.specs.Outcomes.{book_state, seen, own_call, entered_as, replaced_as};
+ghost use Rattle.book.specs.Moves.{entering, replacing};
 
 use super::Book;
-use crate::passes::{InHand, Ready};
-use crate::reports::{in_report_of, off_report_of};
-use market::legal::{is_legal_price, is_legal_show, is_legal_size, is_legal_user};
-use market::types::{Reason, Refusal, Report, Side, Terms};
+use crate::checks::check_terms;
+use crate::passes::{InHand, Ready, Refused};
+use market::types::{Order, Reason, Refusal, Report, Side, Terms};
 use resting::orders::OpenOrders;
-use resting::shares::to_hand;
 use std::alloc::{AllocError, Global};
-
-// The first refusal of an entry's terms, if any.
-fn refuses_terms(t: Terms) -> Option<Refusal>
-    ensures { result ≡ terms_refusal t }
-{
-    if !is_legal_user(t.user) {
-        Some(Refusal::User)
-    } else if !is_legal_size(t.size) {
-        Some(Refusal::Size)
-    } else if !is_legal_price(t.price) {
-        Some(Refusal::Price)
-    } else if !is_legal_show(t.size, t.show, t.kind) {
-        Some(Refusal::Show)
-    } else {
-        None
-    }
-}
 
 impl Book {
     pub(crate) fn make(heap: Global, id: u32, first: u32) -> Result<(Book, Ready), AllocError>
@@ -39,20 +22,15 @@ impl Book {
         Ok((Book { id, orders }, Ready { book: id }))
     }
 
-    // The first refusal of an entry: its terms, or numbers used up.
-    fn refuses_entry(&self, t: Terms) -> Option<Refusal>
-        ensures { result ≡ enter_refusal t (book_state self.now) }
+    // An entry with a pass that bears this number: its order, and the report of it.
+    fn enter_by(&mut self, pass: u32, side: Side, t: Terms) -> Result<(Order, Report), Refusal>
+        ensures outcome { (q : Quotes) → seen self.new pass (entering result (book_state self.new) q) ≡ own_call self.old pass q (Enter side t) ready }
+        ensures able { IfOk result (λ x. able x.0 ≡ true) }
     {
-        match refuses_terms(t) {
-            Some(why) => Some(why),
-            None => {
-                if self.orders.next_number() == 0 {
-                    Some(Refusal::NumbersUsedUp)
-                } else {
-                    None
-                }
-            }
-        }
+        self.owns(pass)?;
+        check_terms(t)?;
+        self.check_numbers()?;
+        Ok(self.admit(side, t))
     }
 
     // Takes an order in hand under the next number.
@@ -61,23 +39,35 @@ impl Book {
         pass: Ready,
         side: Side,
         t: Terms,
-    ) -> Result<(InHand, Report), (Refusal, Ready)>
-        ensures outcome { (q : Quotes) → entered_as result (book_state self.new) q ≡ own_call (pass.book == self.old.id) q (Enter side t) (book_state self.old) ready }
-        ensures pass { entered_book result ≡ pass.book }
-        ensures id { self.new.id ≡ self.old.id }
+    ) -> Result<(InHand, Report), Refused<Ready>>
+        ensures { (q : Quotes) → entered_as result self.new q ≡ own_call self.old pass.book q (Enter side t) ready }
     {
-        if pass.book != self.id {
-            return Err((Refusal::WrongPass, pass));
-        }
-        match self.refuses_entry(t) {
-            Some(why) => Err((why, pass)),
-            None => {
+        match self.enter_by(pass.book, side, t) {
+            Err(why) => Err(Refused { why, pass }),
+            Ok((order, report)) => {
                 let Ready { book } = pass;
-                let number = self.orders.take_number();
-                let order = to_hand(side, t, number);
-                Ok((InHand { book, order }, in_report_of(order)))
+                Ok((InHand { book, order }, report))
             }
         }
+    }
+
+    // A replacement with a pass that bears this number: the new order, and the reports off and in.
+    fn replace_by(
+        &mut self,
+        pass: u32,
+        t: Terms,
+        number: u32,
+    ) -> Result<(Order, Report, Report), Refusal>
+        ensures outcome { (q : Quotes) → seen self.new pass (replacing result (book_state self.new) q) ≡ own_call self.old pass q (Replace t number) ready }
+        ensures able { IfOk result (λ x. able x.0 ≡ true) }
+    {
+        self.owns(pass)?;
+        check_terms(t)?;
+        let at = self.orders.find(t.user, number).ok_or(Refusal::NotResting)?;
+        self.check_numbers()?;
+        let off = self.take_off(Reason::Replaced, at);
+        let (order, entered) = self.admit(at.side, t);
+        Ok((order, off, entered))
     }
 
     // Removes a user's resting order and takes new terms in hand on its side, both or neither: off, then in.
@@ -86,30 +76,14 @@ impl Book {
         pass: Ready,
         t: Terms,
         number: u32,
-    ) -> Result<(InHand, Report, Report), (Refusal, Ready)>
-        ensures outcome { (q : Quotes) → replaced_as result (book_state self.new) q ≡ own_call (pass.book == self.old.id) q (Replace t number) (book_state self.old) ready }
-        ensures pass { replaced_book result ≡ pass.book }
-        ensures id { self.new.id ≡ self.old.id }
+    ) -> Result<(InHand, Report, Report), Refused<Ready>>
+        ensures { (q : Quotes) → replaced_as result self.new q ≡ own_call self.old pass.book q (Replace t number) ready }
     {
-        if pass.book != self.id {
-            return Err((Refusal::WrongPass, pass));
-        }
-        if let Some(why) = refuses_terms(t) {
-            return Err((why, pass));
-        }
-        match self.orders.find(t.user, number) {
-            None => Err((Refusal::NotResting, pass)),
-            Some(at) => {
-                if self.orders.next_number() == 0 {
-                    return Err((Refusal::NumbersUsedUp, pass));
-                }
+        match self.replace_by(pass.book, t, number) {
+            Err(why) => Err(Refused { why, pass }),
+            Ok((order, off, entered)) => {
                 let Ready { book } = pass;
-                let line = self.orders.line_at(at.side, at.place);
-                self.orders.take_out(at.side, at.place);
-                let new = self.orders.take_number();
-                let order = to_hand(at.side, t, new);
-                let off = off_report_of(Reason::Replaced, line.shown + line.held, at.side, line);
-                Ok((InHand { book, order }, off, in_report_of(order)))
+                Ok((InHand { book, order }, off, entered))
             }
         }
     }

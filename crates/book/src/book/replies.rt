@@ -1,46 +1,58 @@
 // What comes back from the venues that shares were sent to.
-ghost use Rattle.std.specs.Prelude.{◌≡◌, ◌==◌};
+ghost use Rattle.std.specs.Prelude.{◌≡◌, true, IfOk, IfSome};
 ghost use Rattle.market.specs.declared.types.Call.TheVariants.{Reply};
 ghost use Rattle.market.specs.States.{Quotes};
 ghost use Rattle.market.specs.Calls.{ready, ended};
-ghost use Rattle.book.specs.Outcomes.{book_state, own_call, replied_as, replied_book, late_as};
+ghost use Rattle.market.specs.Sound.{able};
+ghost use Rattle.book.specs.Outcomes.{book_state, seen, own_call, replied_as, late_as};
+ghost use Rattle.book.specs.Moves.{returning, returning_late};
 
 use super::Book;
-use crate::passes::{Ended, InHand, Next, Ready};
+use crate::passes::{Ended, Next, Ready, Refused};
 use crate::reports::{back_report_of, off_hand_report};
-use market::types::{Reason, Refusal, Report};
+use market::types::{Order, Reason, Refusal, Report};
 use resting::shares::come_back;
 
 impl Book {
+    // A reply with a pass that bears this number: its report, and the shares that come back, if any.
+    fn reply_by(
+        &mut self,
+        pass: u32,
+        filled: u32,
+        number: u32,
+    ) -> Result<(Report, Option<Order>), Refusal>
+        ensures ready { (q : Quotes) → seen self.new pass (returning result (book_state self.new) q) ≡ own_call self.old pass q (Reply filled number) ready }
+        ensures ended { (q : Quotes) → seen self.new pass (returning_late result (book_state self.new) q) ≡ own_call self.old pass q (Reply filled number) ended }
+        ensures able { IfOk result (λ x. IfSome x.1 (λ o. able o ≡ true)) }
+    {
+        self.owns(pass)?;
+        let place = self.orders.find_route(number).ok_or(Refusal::NotOut)?;
+        let route = self.orders.route_at(place);
+        if filled > route.out {
+            return Err(Refusal::ReplyTooLarge);
+        }
+        self.orders.end_route(place);
+        let report = back_report_of(filled, route);
+        if filled == route.out {
+            return Ok((report, None));
+        }
+        Ok((report, Some(come_back(route, filled))))
+    }
+
     // Ends a route of which so many shares were filled. The others come back in hand.
     pub fn reply(
         &mut self,
         pass: Ready,
         filled: u32,
         number: u32,
-    ) -> Result<(Next, Report), (Refusal, Ready)>
-        ensures outcome { (q : Quotes) → replied_as result (book_state self.new) q ≡ own_call (pass.book == self.old.id) q (Reply filled number) (book_state self.old) ready }
-        ensures pass { replied_book result ≡ pass.book }
-        ensures id { self.new.id ≡ self.old.id }
+    ) -> Result<(Next, Report), Refused<Ready>>
+        ensures { (q : Quotes) → replied_as result self.new q ≡ own_call self.old pass.book q (Reply filled number) ready }
     {
-        if pass.book != self.id {
-            return Err((Refusal::WrongPass, pass));
-        }
-        match self.orders.find_route(number) {
-            None => Err((Refusal::NotOut, pass)),
-            Some(place) => {
-                let route = self.orders.route_at(place);
-                if filled > route.out {
-                    return Err((Refusal::ReplyTooLarge, pass));
-                }
-                self.orders.end_route(place);
-                let report = back_report_of(filled, route);
-                if route.out == filled {
-                    return Ok((Next::Done(pass), report));
-                }
+        match self.reply_by(pass.book, filled, number) {
+            Err(why) => Err(Refused { why, pass }),
+            Ok((report, left)) => {
                 let Ready { book } = pass;
-                let order = come_back(route, filled);
-                Ok((Next::More(InHand { book, order }), report))
+                Ok((Next::with(book, left), report))
             }
         }
     }
@@ -52,29 +64,9 @@ impl Book {
         filled: u32,
         number: u32,
     ) -> Result<(Report, Option<Report>), Refusal>
-        ensures outcome { (q : Quotes) → late_as result (book_state self.new) q ≡ own_call (pass.now.book == self.old.id) q (Reply filled number) (book_state self.old) ended }
-        ensures id { self.new.id ≡ self.old.id }
+        ensures { (q : Quotes) → late_as pass.now.book result self.new q ≡ own_call self.old pass.now.book q (Reply filled number) ended }
     {
-        if pass.book != self.id {
-            return Err(Refusal::WrongPass);
-        }
-        match self.orders.find_route(number) {
-            None => Err(Refusal::NotOut),
-            Some(place) => {
-                let route = self.orders.route_at(place);
-                if filled > route.out {
-                    return Err(Refusal::ReplyTooLarge);
-                }
-                self.orders.end_route(place);
-                let report = back_report_of(filled, route);
-                if route.out == filled {
-                    return Ok((report, None));
-                }
-                Ok((
-                    report,
-                    Some(off_hand_report(Reason::Expired, come_back(route, filled))),
-                ))
-            }
-        }
+        let (report, left) = self.reply_by(pass.book, filled, number)?;
+        Ok((report, left.map(|o| off_hand_report(Reason::Expired, o))))
     }
 }

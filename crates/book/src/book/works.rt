@@ -1,19 +1,19 @@
 // Working the order in hand: one step, or steps one after another.
-ghost use Rattle.std.specs.Prelude.{◌≡◌, ◌<◌, ◌≤◌, true, false, length, Some, ◌==◌, ◌≢◌};
+ghost use Rattle.std.specs.Prelude.{◌≡◌, ◌<◌, ◌≤◌, true, false, length, Some, IfSome, ◌≢◌};
 ghost use Rattle.ranking.specs.Place.{head_of};
 ghost use Rattle.market.specs.declared.types.Call.TheVariants.{Work};
-ghost use Rattle.market.specs.declared.types.Move.TheVariants.{Trade, Send, TakeOff, Rest};
+ghost use Rattle.market.specs.declared.types.Move.TheVariants.{Trade, Send, Rest};
 ghost use Rattle.market.specs.Sides.{across_of};
-ghost use Rattle.market.specs.States.{quotes_of, no_quotes, quoted, on, fits, new_state};
+ghost use Rattle.market.specs.States.{quotes_of, no_quotes, quoted, on, fits};
 ghost use Rattle.market.specs.Steps.{ends, resting_near, quotation_near, move_of, act, step};
 ghost use Rattle.market.specs.Calls.{in_hand};
 ghost use Rattle.market.specs.Sound.{able};
 ghost use Rattle.resting.specs.Sides.{first_shown};
-ghost use Rattle.book.specs.Outcomes.{book_state, own_call, worked_as, worked_book};
+ghost use Rattle.book.specs.Outcomes.{book_state, own_call, worked_as};
 ghost use Rattle.book.specs.Works.{Did, WorksOn, accepts};
 
 use super::Book;
-use crate::passes::{InHand, Next, Ready};
+use crate::passes::{InHand, Next, Refused};
 use crate::reports::{off_hand_report, rest_report_of, sent_report_of, trade_report_of};
 use board::Board;
 use board::looks::{first_better, first_line};
@@ -38,25 +38,13 @@ fn ending(near: bool, full: bool, kind: Kind) -> Move
 fn is_resting_near(o: Order, first: Option<Resting>) -> bool
     ensures { result ≡ resting_near o first }
 {
-    match first {
-        None => false,
-        Some(p) => o.side.is_within(o.limit, p.price),
-    }
+    first.is_some_and(|p| o.side.is_within(o.limit, p.price))
 }
 
 fn is_quotation_near(o: Order, first: Option<Quotation>) -> bool
     ensures { result ≡ quotation_near o first }
 {
-    match first {
-        None => false,
-        Some(q) => o.side.is_within(o.limit, q.price),
-    }
-}
-
-fn take_off(o: Order, why: Reason) -> (Report, Option<Order>)
-    ensures { Did (act (TakeOff why) (new_state 0) no_quotes o) (new_state 0) no_quotes result }
-{
-    (off_hand_report(why, o), None)
+    first.is_some_and(|q| o.side.is_within(o.limit, q.price))
 }
 
 impl Book {
@@ -67,24 +55,24 @@ impl Book {
         let across = o.side.across();
         let resting = self.orders.first_on(across);
         let quotation = first_line(board, across);
-        if let Some(p) = resting {
-            if o.side.is_within(o.limit, p.price)
-                && (o.kind.trades_past() || !first_better(board, across, p.price))
-            {
-                return Move::Trade {
-                    number: p.number,
-                    price: p.price,
-                    shown: p.shown,
-                };
-            }
+        if let Some(p) = resting
+            && o.side.is_within(o.limit, p.price)
+            && (o.kind.trades_past() || !first_better(board, across, p.price))
+        {
+            return Move::Trade {
+                number: p.number,
+                price: p.price,
+                shown: p.shown,
+            };
         }
-        if let Some(q) = quotation {
-            if o.kind.goes_out() && o.side.is_within(o.limit, q.price) {
-                if self.orders.has_no_route() {
-                    return Move::TakeOff(Reason::NoRoute);
-                }
-                return Move::Send(q);
+        if let Some(q) = quotation
+            && o.kind.goes_out()
+            && o.side.is_within(o.limit, q.price)
+        {
+            if self.orders.has_no_route() {
+                return Move::TakeOff(Reason::NoRoute);
             }
+            return Move::Send(q);
         }
         ending(
             is_resting_near(o, resting) || is_quotation_near(o, quotation),
@@ -95,8 +83,7 @@ impl Book {
 
     fn trade(&mut self, o: Order, number: u32, price: u32, shown: u32) -> (Report, Option<Order>)
         requires { shown ≤ first_shown (on (across_of o.side) (book_state self.old)) }
-        ensures did { Did (act (Trade number price shown) (book_state self.old) no_quotes o) (book_state self.new) no_quotes result }
-        ensures id { self.new.id ≡ self.old.id }
+        ensures { Did (act (Trade number price shown) (book_state self.old) no_quotes o) self.old self.new no_quotes result }
     {
         let k = o.shares.min(shown);
         self.orders.trade(o.side.across(), k);
@@ -104,55 +91,57 @@ impl Book {
     }
 
     // The board's line is lessened, and a route is opened, by the same shares.
-    fn send<B: Board>(&mut self, o: Order, q: Quotation, board: &mut B) -> (Report, Option<Order>)
-        requires able { able o ≡ true }
-        requires first { Some q ≡ head_of (quoted (across_of o.side) (quotes_of (B.bids board.old) (B.offers board.old))) }
+    fn send<B: Board>(
+        &mut self,
+        hand: &InHand,
+        q: Quotation,
+        board: &mut B,
+    ) -> (Report, Option<Order>)
+        requires first { Some q ≡ head_of (quoted (across_of hand.now.order.side) (quotes_of (B.bids board.old) (B.offers board.old))) }
         requires room { length (book_state self.old).routes < 64 }
         requires left { (book_state self.old).next ≢ 0 }
-        ensures did { Did (act (Send q) (book_state self.old) (quotes_of (B.bids board.old) (B.offers board.old)) o) (book_state self.new) (quotes_of (B.bids board.new) (B.offers board.new)) result }
-        ensures id { self.new.id ≡ self.old.id }
+        ensures { Did (act (Send q) (book_state self.old) (quotes_of (B.bids board.old) (B.offers board.old)) hand.now.order) self.old self.new (quotes_of (B.bids board.new) (B.offers board.new)) result }
     {
+        let o = hand.order;
         let k = o.shares.min(q.size);
         let _ = board.take(o.side.across(), q.venue, k);
         let number = self.orders.open_route(o, q, k);
         (sent_report_of(o, q, number, k), left_of(o, k))
     }
 
-    fn rest(&mut self, o: Order) -> (Report, Option<Order>)
-        requires able { able o ≡ true }
-        requires number { fits o.number (book_state self.old) ≡ true }
-        requires room { length (on o.side (book_state self.old)) < 256 }
-        requires clear { resting_near o (head_of (on (across_of o.side) (book_state self.old))) ≡ false }
-        ensures did { Did (act Rest (book_state self.old) no_quotes o) (book_state self.new) no_quotes result }
-        ensures id { self.new.id ≡ self.old.id }
+    fn rest(&mut self, hand: &InHand) -> (Report, Option<Order>)
+        requires number { fits hand.now.order.number (book_state self.old) ≡ true }
+        requires room { length (on hand.now.order.side (book_state self.old)) < 256 }
+        requires clear { resting_near hand.now.order (head_of (on (across_of hand.now.order.side) (book_state self.old))) ≡ false }
+        ensures { Did (act Rest (book_state self.old) no_quotes hand.now.order) self.old self.new no_quotes result }
     {
-        let p = to_rest(o);
-        self.orders.rest(o.side, p);
+        let o = hand.order;
+        self.orders.rest(o.side, to_rest(o));
         (rest_report_of(o), None)
     }
 
-    // Does what the first rule that applies says.
-    fn act<B: Board>(&mut self, o: Order, board: &mut B) -> (Report, Option<Order>)
-        requires able { able o ≡ true }
-        requires number { fits o.number (book_state self.old) ≡ true }
-        ensures did { Did (step (book_state self.old) (quotes_of (B.bids board.old) (B.offers board.old)) o) (book_state self.new) (quotes_of (B.bids board.new) (B.offers board.new)) result }
-        ensures id { self.new.id ≡ self.old.id }
+    // Does what the first rule that applies says: the report, and what is left in hand.
+    fn act<B: Board>(&mut self, hand: &InHand, board: &mut B) -> (Report, Option<Order>)
+        requires { fits hand.now.order.number (book_state self.old) ≡ true }
+        ensures did { Did (step (book_state self.old) (quotes_of (B.bids board.old) (B.offers board.old)) hand.now.order) self.old self.new (quotes_of (B.bids board.new) (B.offers board.new)) result }
+        ensures able { IfSome result.1 (λ o. able o ≡ true) }
     {
+        let o = hand.order;
         match self.decide(o, board) {
             Move::Trade {
                 number,
                 price,
                 shown,
             } => self.trade(o, number, price, shown),
-            Move::Send(q) => self.send(o, q, board),
-            Move::TakeOff(why) => take_off(o, why),
-            Move::Rest => self.rest(o),
+            Move::Send(q) => self.send(hand, q, board),
+            Move::TakeOff(why) => (off_hand_report(why, o), None),
+            Move::Rest => self.rest(hand),
         }
     }
 
     // Whether the pass is this book's, and its order may be worked.
     fn accepts(&self, pass: &InHand) -> bool
-        ensures { result ≡ accepts self.now.id (book_state self.now) pass.now }
+        ensures { result ≡ accepts self.now pass.now }
     {
         pass.book == self.id && self.orders.may_work(pass.order.number)
     }
@@ -162,20 +151,15 @@ impl Book {
         &mut self,
         pass: InHand,
         board: &mut B,
-    ) -> Result<(Next, Report), (Refusal, InHand)>
-        ensures outcome { worked_as result (book_state self.new) (quotes_of (B.bids board.new) (B.offers board.new)) ≡ own_call (pass.book == self.old.id) (quotes_of (B.bids board.old) (B.offers board.old)) Work (book_state self.old) (in_hand pass.order) }
-        ensures pass { worked_book result ≡ pass.book }
-        ensures id { self.new.id ≡ self.old.id }
+    ) -> Result<(Next, Report), Refused<InHand>>
+        ensures { worked_as result self.new (quotes_of (B.bids board.new) (B.offers board.new)) ≡ own_call self.old pass.book (quotes_of (B.bids board.old) (B.offers board.old)) Work (in_hand pass.order) }
     {
         if !self.accepts(&pass) {
-            return Err((Refusal::WrongPass, pass));
+            let why = Refusal::WrongPass;
+            return Err(Refused { why, pass });
         }
-        let InHand { book, order } = pass;
-        let (report, left) = self.act(order, board);
-        match left {
-            None => Ok((Next::Done(Ready { book }), report)),
-            Some(order) => Ok((Next::More(InHand { book, order }), report)),
-        }
+        let (report, left) = self.act(&pass, board);
+        Ok((pass.hand_on(left), report))
     }
 
     // Does steps, and writes their reports from the front of the list, until the order is done or the list is full.
@@ -184,25 +168,22 @@ impl Book {
         pass: InHand,
         board: &mut B,
         reports: &mut [Report],
-    ) -> Result<(Next, usize), (Refusal, InHand)>
-        ensures works { WorksOn self.old.id pass (book_state self.old) (book_state self.new) (quotes_of (B.bids board.old) (B.offers board.old)) (quotes_of (B.bids board.new) (B.offers board.new)) reports.old reports.new result }
-        ensures id { self.new.id ≡ self.old.id }
+    ) -> Result<(Next, usize), Refused<InHand>>
+        ensures { WorksOn pass self.old self.new (quotes_of (B.bids board.old) (B.offers board.old)) (quotes_of (B.bids board.new) (B.offers board.new)) reports.old reports.new result }
     {
         if !self.accepts(&pass) {
-            return Err((Refusal::WrongPass, pass));
+            let why = Refusal::WrongPass;
+            return Err(Refused { why, pass });
         }
-        let InHand { book, order } = pass;
-        let mut order = order;
-        let mut n = 0;
-        while n < reports.len() {
-            let (report, left) = self.act(order, board);
+        let mut hand = pass;
+        for n in 0..reports.len() {
+            let (report, left) = self.act(&hand, board);
             reports[n] = report;
-            n += 1;
-            match left {
-                None => return Ok((Next::Done(Ready { book }), n)),
-                Some(rest) => order = rest,
+            match hand.hand_on(left) {
+                Next::Done(ready) => return Ok((Next::Done(ready), n + 1)),
+                Next::More(more) => hand = more,
             }
         }
-        Ok((Next::More(InHand { book, order }), n))
+        Ok((Next::More(hand), reports.len()))
     }
 }

@@ -7,15 +7,16 @@ use Rattle.book.proofs.book.Book.act.Goals as goal
 
 pub trade-requires : goal.trade-requires
 trade-requires g c =
-    let h = trade_when (book_state c.args.self.now) _ c.args.o c.in-Trade.number c.in-Trade.price c.in-Trade.shown (sym c.in-Trade.ensures) in
+    let h = trade_when (book_state c.args.self.now) _ c.args.hand.now.order c.in-Trade.number c.in-Trade.price c.in-Trade.shown (sym c.in-Trade.ensures) in
     shown_first _ h.0 c.in-Trade.shown h.1 h.5
 
 pub send-requires : goal.send-requires
 send-requires g c =
-    let h = send_when (book_state c.args.self.now) _ c.args.o c.in-Send.q (sym c.in-Send.ensures) in
-    record { able = c.requires.able; first = h.0; room = h.2; left = h.3 }
+    let h = send_when (book_state c.args.self.now) _ c.args.hand.now.order c.in-Send.q (sym c.in-Send.ensures) in
+    record { first = h.0; room = h.2; left = h.3 }
 
 pub rest-requires : goal.rest-requires
 rest-requires g c =
-    let h = rest_when (book_state c.args.self.now) _ c.args.o (g.met.B.Board.ranked c.args.board.now (across_of c.args.o.side)) (sym c.in-Rest.ensures) in
-    record { able = c.requires.able; number = c.requires.number; room = h.1; clear = h.0 }
+    let o = c.args.hand.now.order in
+    let h = rest_when (book_state c.args.self.now) _ o (g.met.B.Board.ranked c.args.board.now (across_of o.side)) (sym c.in-Rest.ensures) in
+    record { number = c.requires; room = h.1; clear = h.0 }

@@ -3,41 +3,32 @@ use Rattle.market.specs.declared.types.Call.TheVariants.{Cut}
 use Rattle.market.specs.Orders.{total}
 use Rattle.market.specs.States.{on}
 use Rattle.market.specs.Calls.{ready}
-use Rattle.resting.specs.Orders.{at_place}
 use Rattle.resting.proofs.Places.{total_is}
 use Rattle.book.specs.Outcomes.{book_state}
-use Rattle.book.proofs.Checks.{own_yes}
-use Rattle.book.proofs.Calls.{cut_large, cut_done}
+use Rattle.book.proofs.Calls.{owned, located, cut_large, cut_done}
 use Rattle.book.proofs.book.Book.cut.Goals as goal
 
 pub returns-then-size-line : goal.returns-then-size-line
 returns-then-size-line c =
-    let b = c.args.self.now in
-    let s = book_state b in
-    let at = c.in-Some-find.at in
+    let a = c.args in
+    let s = book_state a.self.now in
     let x = c.line_at-line.result in
-    record {
-      outcome = λ q. own_yes c.args.pass.now.book b.id q (Cut c.args.size c.args.user c.args.number) s ready _ c.if-pass-self.false
-          (cut_large s q c.args.size c.args.user c.args.number (at_place at.side at.place s x) x c.in_default.ensures (c.in-Some-find.ensures.1 x) (c.line_at-line.ensures.value x) c.if-size-line.true);
-      id = refl;
-    }
+    λ q. owned a.self.now _ a.pass.now.book q (Cut a.size a.user a.number) ready _ c.in_ok-owns.ensures refl
+    (cut_large s q a.user a.number c.in_ok-at.at (located a.user a.number s _ _ _ c.in_ok-at.ensures.value c.find.ensures) a.size x c.in_ok-check_user.ensures c.in_ok-check_size.ensures (c.line_at-line.ensures.value x) c.if-size-line.true)
 
-pub trim-requires : goal.trim-requires
-trim-requires c =
-    let s = book_state c.args.self.now in
-    let at = c.in-Some-find.at in
+pub trim-requires-clause-few : goal.trim-requires-clause-few
+trim-requires-clause-few c =
+    let a = c.args in
+    let s = book_state a.self.now in
+    let at = c.in_ok-at.at in
     let x = c.line_at-line.result in
-    let h = c.in-Some-find.ensures.0 in
-    record { place = h; few = subst (λ (n : ℕ). c.args.size < n) (sym (total_is (on at.side s) at.place x h ∙ ap total (sym (c.line_at-line.ensures.value x)))) c.if-size-line.false }
+    let h = (located a.user a.number s _ _ _ c.in_ok-at.ensures.value c.find.ensures).0 in
+    subst (λ (n : ℕ). a.size < n) (sym (total_is (on at.side s) at.place x h ∙ ap total (sym (c.line_at-line.ensures.value x)))) c.if-size-line.false
 
-pub returns-else-size-line : goal.returns-else-size-line
-returns-else-size-line c =
-    let b = c.args.self.now in
-    let s = book_state b in
-    let at = c.in-Some-find.at in
+pub returns : goal.returns
+returns c =
+    let a = c.args in
+    let s = book_state a.self.now in
     let x = c.line_at-line.result in
-    record {
-      outcome = λ q. own_yes c.args.pass.now.book b.id q (Cut c.args.size c.args.user c.args.number) s ready _ c.if-pass-self.false
-          (cut_done s q c.args.size c.args.user c.args.number (at_place at.side at.place s x) x _ _ c.in_default.ensures (c.in-Some-find.ensures.1 x) (c.line_at-line.ensures.value x) c.if-size-line.false c.off_report_of.ensures (c.trim.ensures x));
-      id = refl;
-    }
+    λ q. owned a.self.now _ a.pass.now.book q (Cut a.size a.user a.number) ready _ c.in_ok-owns.ensures refl
+    (cut_done s q a.user a.number c.in_ok-at.at (located a.user a.number s _ _ _ c.in_ok-at.ensures.value c.find.ensures) a.size x c.in_ok-check_user.ensures c.in_ok-check_size.ensures (c.line_at-line.ensures.value x) _ _ c.if-size-line.false c.off_report_of.ensures (c.trim.ensures x))

@@ -1,33 +1,37 @@
-use Rattle.std.proofs.Common.{Some, None, sym, refl, ◌∙◌, arith, length-set, rules}
-use Rattle.soundness.proofs.Hands.{able_after, fits_after}
-use Rattle.market.specs.States.{quotes_of}
+use Rattle.std.proofs.Common.{◌≡◌, ℕ, true, length, ◌<◌, Some, None, sym, ◌∙◌, subst, arith, length-set}
+use Rattle.soundness.proofs.Hands.{fits_after}
+use Rattle.market.specs.States.{quotes_of, fits}
+use Rattle.market.specs.Steps.{run}
 use Rattle.book.specs.Outcomes.{book_state}
+use Rattle.book.specs.Works.{Ran}
 use Rattle.book.proofs.Runs.{along_on, ran_done, ran_full}
 use Rattle.book.proofs.book.Book.work_on.Goals as goal
 
-pub returns-in-None : goal.returns-in-None
-returns-in-None g c =
+pub returns-in-Done : goal.returns-in-Done
+returns-in-Done g c =
     let l = c.loop-n in
-    let a = along_on c.args.reports.now _ l.reports l.n l.order _ _ _ _ c.act-left.result None c.in-None.is c.loop-n-test.true l.auto.reports l.invariant.4 c.act-left.ensures.did in
-    record {
-      works = (sym c.if-not-accepts.ensures, refl, ran_done c.args.reports.now _ _ _ _ _ (simp length-set (omega arith)) a);
-      id = c.act-left.ensures.id ∙ l.invariant.3;
-    }
+    let d = c.act-left.ensures.did in
+    let h : l.n < length l.reports = omega arith in
+    let a = along_on c.args.reports.now _ l.reports l.n l.hand.order l.self c.act-left.new.self _ _ c.act-left.result None (sym c.in-Done.ensures.left) h l.auto.reports l.invariant.4 d in
+    (sym c.if-not-accepts.ensures, d.0 ∙ l.invariant.2, c.in-Done.ensures.book ∙ l.invariant.3, ran_done c.args.reports.now _ _ _ _ _ (simp length-set (omega arith)) a)
 
 pub loop-n-preserved : goal.loop-n-preserved
 loop-n-preserved g c =
     let l = c.loop-n in
-    let s = book_state l.self in
+    let d = c.act-left.ensures.did in
+    let o = c.in-More.more.order in
     let q = quotes_of (g.B.Board.bids l.board) (g.B.Board.offers l.board) in
-    let e = sym c.in-Some.is ∙ c.act-left.ensures.did.1 in
-    let f = fits_after s q l.order c.in-Some.rest l.invariant.1 e in
-    let a = along_on c.args.reports.now _ l.reports l.n l.order _ _ _ _ c.act-left.result (Some c.in-Some.rest) c.in-Some.is c.loop-n-test.true l.auto.reports l.invariant.4 c.act-left.ensures.did in
-    (able_after s q l.order c.in-Some.rest l.invariant.0 e, search rules, simp length-set (omega arith), c.act-left.ensures.id ∙ l.invariant.3, a)
+    let e = c.in-More.ensures.left ∙ d.2 in
+    let P : _ → Type 0 = λ s. fits o.number s ≡ true in
+    let f = subst P (sym d.3) (fits_after (book_state l.self) q l.hand.order o l.invariant.0 e) in
+    let h : l.n < length l.reports = omega arith in
+    let a = along_on c.args.reports.now _ l.reports l.n l.hand.order l.self c.act-left.new.self _ _ c.act-left.result (Some o) (sym c.in-More.ensures.left) h l.auto.reports l.invariant.4 d in
+    (f, simp length-set (omega arith), d.0 ∙ l.invariant.2, c.in-More.ensures.book ∙ l.invariant.3, a)
 
 pub returns : goal.returns
 returns g c =
     let l = c.loop-n in
-    record {
-      works = (sym c.if-not-accepts.ensures, refl, ran_full c.args.reports.now _ _ _ _ _ _ l.invariant.2 (omega arith) l.invariant.4);
-      id = l.invariant.3;
-    }
+    let t = run (length c.args.reports.now) (Some c.args.pass.order) (book_state c.args.self.now) (quotes_of (g.B.Board.bids c.args.board.now) (g.B.Board.offers c.args.board.now)) in
+    let e : l.n ≡ length l.reports = omega arith in
+    let P : ℕ → Type 0 = λ n. Ran t (book_state l.self) (quotes_of (g.B.Board.bids l.board) (g.B.Board.offers l.board)) c.args.reports.now l.reports n (Some l.hand.order) in
+    (sym c.if-not-accepts.ensures, l.invariant.2, l.invariant.3, subst P e (ran_full c.args.reports.now _ _ _ _ _ _ l.invariant.1 (omega arith) l.invariant.4))
