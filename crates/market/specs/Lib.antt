@@ -6,7 +6,6 @@ pub mod States
 pub mod Orders
 pub mod Reports
 pub mod Written
-pub mod Figures
 pub mod Quotes
 pub mod Steps
 pub mod Calls

@@ -6,6 +6,7 @@ use Rattle.market.specs.declared.types.Route.{Route}
 use Rattle.market.specs.declared.types.Quotation.{Quotation}
 use Rattle.market.specs.declared.types.Order.{Order}
 use Rattle.market.specs.declared.types.Report.{Report}
+use Rattle.market.specs.declared.types.What.{What}
 use Rattle.market.specs.declared.types.What.TheVariants.{In, Trade, Sent, Rest, Off, Back}
 use Rattle.market.specs.declared.types.Reason.{Reason}
 use Rattle.market.specs.declared.types.Reason.TheVariants.{Cancelled, Cut, Replaced, Expired, Unfilled, WouldLock, NoRoute, SideFull}
@@ -39,30 +40,51 @@ refusal_number NoSuchLine = 12
 refusal_number NothingResting = 13
 refusal_number NoPass = 47
 
+-- a report has number, user, side, price, shares, held and other. The last two come with what it tells of: one that is not named is 0, and
+-- such a one alone is written as -
+
+-- held: the shares held back by an order that comes to rest, or left unfilled by a reply
+abbrev pub held_of : What → ℕ
+held_of In = 0
+held_of (Trade n) = 0
+held_of (Sent v) = 0
+held_of (Rest held) = held
+held_of (Off why) = 0
+held_of (Back unfilled v) = unfilled
+
+-- other: the resting number of a trade, the venue of a send or a reply, the reason of a take-off
+abbrev pub other_of : What → ℕ
+other_of In = 0
+other_of (Trade n) = n
+other_of (Sent venue) = venue
+other_of (Rest held) = 0
+other_of (Off why) = reason_number why
+other_of (Back unfilled venue) = venue
+
 -- accepted: the limit and the size
 abbrev pub in_report : Order → Report
-in_report o = record { what = In; number = o.number; user = o.user; side = o.side; price = o.limit; shares = o.shares; held = 0; other = 0 }
+in_report o = record { what = In; number = o.number; user = o.user; side = o.side; price = o.limit; shares = o.shares }
 
 -- k shares traded at a price with the resting number n
 abbrev pub trade_report : Order → ℕ → ℕ → ℕ → Report
-trade_report o n price k = record { what = Trade; number = o.number; user = o.user; side = o.side; price = price; shares = k; held = 0; other = n }
+trade_report o n price k = record { what = Trade n; number = o.number; user = o.user; side = o.side; price = price; shares = k }
 
 -- k shares sent to a quotation under the number n
 abbrev pub sent_report : Order → Quotation → ℕ → ℕ → Report
-sent_report o q n k = record { what = Sent; number = n; user = o.user; side = o.side; price = q.price; shares = k; held = 0; other = q.venue }
+sent_report o q n k = record { what = Sent q.venue; number = n; user = o.user; side = o.side; price = q.price; shares = k }
 
 -- come to rest: the limit, displayed and held shares
 abbrev pub rest_report : Order → Report
-rest_report o = record { what = Rest; number = o.number; user = o.user; side = o.side; price = o.limit; shares = (rested o).shown; held = (rested o).held; other = 0 }
+rest_report o = record { what = Rest (rested o).held; number = o.number; user = o.user; side = o.side; price = o.limit; shares = (rested o).shown }
 
 -- k shares of a resting order taken off
 abbrev pub off_report : Reason → ℕ → Side → Resting → Report
-off_report why k d p = record { what = Off; number = p.number; user = p.user; side = d; price = p.price; shares = k; held = 0; other = reason_number why }
+off_report why k d p = record { what = Off why; number = p.number; user = p.user; side = d; price = p.price; shares = k }
 
 -- all that is in hand taken off
 abbrev pub off_hand : Reason → Order → Report
-off_hand why o = record { what = Off; number = o.number; user = o.user; side = o.side; price = o.limit; shares = o.shares; held = 0; other = reason_number why }
+off_hand why o = record { what = Off why; number = o.number; user = o.user; side = o.side; price = o.limit; shares = o.shares }
 
 -- a route's reply: k shares filled at the price sent, the others unfilled
 abbrev pub back_report : ℕ → Route → Report
-back_report k r = record { what = Back; number = r.number; user = r.user; side = r.side; price = r.price; shares = k; held = r.out - k; other = r.venue }
+back_report k r = record { what = Back (r.out - k) r.venue; number = r.number; user = r.user; side = r.side; price = r.price; shares = k }

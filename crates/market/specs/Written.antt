@@ -7,6 +7,7 @@ use Rattle.market.specs.declared.types.Kind.TheVariants.{Limit, BookOnly, Immedi
 use Rattle.market.specs.declared.types.What.{What}
 use Rattle.market.specs.declared.types.What.TheVariants.{In, Trade, Sent, Rest, Off, Back}
 use Rattle.market.specs.declared.types.Report.{Report}
+use Rattle.market.specs.Reports.{reason_number}
 
 -- what one field shows
 pub data Cell : Type 0 where
@@ -46,34 +47,34 @@ kind_word Sweep = codes "S"
 
 abbrev pub what_word : What → List ℕ
 what_word In = codes "in"
-what_word Trade = codes "trade"
-what_word Sent = codes "sent"
-what_word Rest = codes "rest"
-what_word Off = codes "off"
-what_word Back = codes "back"
+what_word (Trade n) = codes "trade"
+what_word (Sent venue) = codes "sent"
+what_word (Rest held) = codes "rest"
+what_word (Off why) = codes "off"
+what_word (Back unfilled venue) = codes "back"
 
--- which reports use held, and which other
-abbrev pub held_cell : What → ℕ → Cell
-held_cell In n = blank
-held_cell Trade n = blank
-held_cell Sent n = blank
-held_cell Rest n = digits n
-held_cell Off n = blank
-held_cell Back n = digits n
+-- which reports tell of held, and which of other: where one does not, the field is blank
+abbrev pub held_cell : What → Cell
+held_cell In = blank
+held_cell (Trade n) = blank
+held_cell (Sent venue) = blank
+held_cell (Rest held) = digits held
+held_cell (Off why) = blank
+held_cell (Back unfilled venue) = digits unfilled
 
-abbrev pub other_cell : What → ℕ → Cell
-other_cell In n = blank
-other_cell Trade n = digits n
-other_cell Sent n = digits n
-other_cell Rest n = blank
-other_cell Off n = digits n
-other_cell Back n = digits n
+abbrev pub other_cell : What → Cell
+other_cell In = blank
+other_cell (Trade n) = digits n
+other_cell (Sent venue) = digits venue
+other_cell (Rest held) = blank
+other_cell (Off why) = digits (reason_number why)
+other_cell (Back unfilled venue) = digits venue
 
 -- report number user side price shares held other
 abbrev pub report_cells : Report → List Cell
 report_cells r =
     word (what_word r.what) ∷ digits r.number ∷ digits r.user ∷ word (side_word r.side) ∷ digits r.price ∷ digits r.shares
-    ∷ held_cell r.what r.held ∷ other_cell r.what r.other ∷ []
+    ∷ held_cell r.what ∷ other_cell r.what ∷ []
 
 abbrev pub refusal_cells : ℕ → List Cell
 refusal_cells n = word (codes "no") ∷ blank ∷ blank ∷ blank ∷ blank ∷ blank ∷ blank ∷ digits n ∷ []

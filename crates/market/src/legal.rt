@@ -9,32 +9,32 @@ use crate::types::Kind;
 pub fn is_legal_price(price: u32) -> bool
     ensures { result ≡ legal_price price }
 {
-    1 <= price && price <= 2_000_000_000 && (price < 10_000 || price % 100 == 0)
+    (1..=2_000_000_000).contains(&price) && (price < 10_000 || price % 100 == 0)
 }
 
 pub fn is_legal_size(size: u32) -> bool
     ensures { result ≡ legal_size size }
 {
-    1 <= size && size <= 999_999
+    (1..=999_999).contains(&size)
 }
 
 pub fn is_legal_user(user: u32) -> bool
     ensures { result ≡ legal_user user }
 {
-    1 <= user && user <= 9_999
+    (1..=9_999).contains(&user)
 }
 
 pub fn is_legal_venue(venue: u32) -> bool
     ensures { result ≡ legal_venue venue }
 {
-    1 <= venue && venue <= 64
+    (1..=64).contains(&venue)
 }
 
 // All is displayed; or at least a round lot and no more than the size, of an order that may rest.
 pub fn is_legal_show(size: u32, show: u32, kind: Kind) -> bool
     ensures { result ≡ legal_show size show kind }
 {
-    show == size || !kind.never_rests() && 100 <= show && show <= size
+    show == size || !kind.never_rests() && (100..=size).contains(&show)
 }
 
 impl Kind {
@@ -42,40 +42,28 @@ impl Kind {
     pub fn goes_out(self) -> bool
         ensures { result ≡ goes_out self }
     {
-        match self {
-            Kind::Limit => true,
-            Kind::BookOnly | Kind::Immediate | Kind::Sweep => false,
-        }
+        matches!(self, Kind::Limit)
     }
 
     // Whether it may trade past a better away quotation.
     pub fn trades_past(self) -> bool
         ensures { result ≡ trades_past self }
     {
-        match self {
-            Kind::Sweep => true,
-            Kind::Limit | Kind::BookOnly | Kind::Immediate => false,
-        }
+        matches!(self, Kind::Sweep)
     }
 
     // Whether what it cannot trade at once is taken off.
     pub fn never_rests(self) -> bool
         ensures { result ≡ never_rests self }
     {
-        match self {
-            Kind::Immediate | Kind::Sweep => true,
-            Kind::Limit | Kind::BookOnly => false,
-        }
+        matches!(self, Kind::Immediate | Kind::Sweep)
     }
 
     // Whether it is taken off where it would lock or cross.
     pub fn never_locks(self) -> bool
         ensures { result ≡ never_locks self }
     {
-        match self {
-            Kind::BookOnly => true,
-            Kind::Limit | Kind::Immediate | Kind::Sweep => false,
-        }
+        matches!(self, Kind::BookOnly)
     }
 }
 
@@ -90,5 +78,5 @@ pub fn was_given(number: u32, next: u32) -> bool
 pub fn number_after(number: u32) -> u32
     ensures { result ≡ after number }
 {
-    if number == u32::MAX { 0 } else { number + 1 }
+    number.checked_add(1).unwrap_or(0)
 }

@@ -4,11 +4,11 @@ ghost use Rattle.market.specs.Reports.{refusal_number, reason_number};
 
 use crate::types::{Reason, Refusal};
 
-impl Refusal {
-    pub fn code(self) -> u32
-        ensures { result ≡ refusal_number self }
-    {
-        match self {
+impl From<Refusal> for u32 {
+    ghost from_gives = { λ why n. n ≡ refusal_number why };
+
+    fn from(why: Refusal) -> u32 {
+        match why {
             Refusal::WrongPass => 1,
             Refusal::User => 2,
             Refusal::Size => 3,
@@ -27,11 +27,11 @@ impl Refusal {
     }
 }
 
-impl Reason {
-    pub fn code(self) -> u32
-        ensures { result ≡ reason_number self }
-    {
-        match self {
+impl From<Reason> for u32 {
+    ghost from_gives = { λ why n. n ≡ reason_number why };
+
+    fn from(why: Reason) -> u32 {
+        match why {
             Reason::Cancelled => 1,
             Reason::Cut => 2,
             Reason::Replaced => 3,

@@ -1,8 +1,7 @@
 // How sides, kinds, reports and refusals are written.
 ghost use Rattle.std.specs.Prelude.{◌≡◌, ℕ, ◌∷◌, ◌++◌, Some, decimal};
-ghost use Rattle.market.specs.Reports.{refusal_number};
-ghost use Rattle.market.specs.Figures.{cell_of};
-ghost use Rattle.market.specs.Written.{side_word, kind_word, what_word, shown, held_cell, other_cell, report_line, refusal_line};
+ghost use Rattle.market.specs.Reports.{refusal_number, held_of, other_of};
+ghost use Rattle.market.specs.Written.{side_word, kind_word, what_word, report_line, refusal_line};
 
 use crate::types::{Kind, Refusal, Report, Side, What};
 use std::fmt;
@@ -37,87 +36,37 @@ impl fmt::Display for What {
     fn fmt<W: fmt::Write>(&self, f: &mut fmt::Formatter<W>) -> fmt::Result {
         match self {
             What::In => write!(f, "in"),
-            What::Trade => write!(f, "trade"),
-            What::Sent => write!(f, "sent"),
-            What::Rest => write!(f, "rest"),
-            What::Off => write!(f, "off"),
-            What::Back => write!(f, "back"),
+            What::Trade { .. } => write!(f, "trade"),
+            What::Sent { .. } => write!(f, "sent"),
+            What::Rest { .. } => write!(f, "rest"),
+            What::Off(_) => write!(f, "off"),
+            What::Back { .. } => write!(f, "back"),
         }
     }
 }
 
-// A number, or the blank of a field that a kind of report does not use.
-#[derive(Clone, Copy)]
-enum Figure {
-    Number(u32),
-    Blank,
-}
-
-impl fmt::Display for Figure {
-    ghost output = { λ x. Some (shown (cell_of x)) };
-
-    fn fmt<W: fmt::Write>(&self, f: &mut fmt::Formatter<W>) -> fmt::Result {
-        match self {
-            Figure::Number(n) => write!(f, "{n}"),
-            Figure::Blank => write!(f, "-"),
+impl Report {
+    // The shares held back by an order that comes to rest, or left unfilled by a reply; else 0.
+    pub fn held(&self) -> u32
+        ensures { result ≡ held_of self.now.what }
+    {
+        match self.what {
+            What::Rest { held } => held,
+            What::Back { unfilled, .. } => unfilled,
+            What::In | What::Trade { .. } | What::Sent { .. } | What::Off(_) => 0,
         }
     }
-}
 
-fn held_figure(what: What, held: u32) -> Figure
-    ensures { cell_of result ≡ held_cell what held }
-{
-    match what {
-        What::Rest | What::Back => Figure::Number(held),
-        What::In | What::Trade | What::Sent | What::Off => Figure::Blank,
-    }
-}
-
-fn other_figure(what: What, other: u32) -> Figure
-    ensures { cell_of result ≡ other_cell what other }
-{
-    match what {
-        What::Trade | What::Sent | What::Off | What::Back => Figure::Number(other),
-        What::In | What::Rest => Figure::Blank,
-    }
-}
-
-// The end of a report's line: held and other.
-#[derive(Clone, Copy)]
-struct Ending {
-    held: Figure,
-    other: Figure,
-}
-
-impl fmt::Display for Ending {
-    ghost output = { λ e. Some (shown (cell_of e.held) ++ 32 ∷ shown (cell_of e.other)) };
-
-    fn fmt<W: fmt::Write>(&self, f: &mut fmt::Formatter<W>) -> fmt::Result {
-        let Ending { held, other } = *self;
-        write!(f, "{held} {other}")
-    }
-}
-
-// What follows the user of a report's line.
-#[derive(Clone, Copy)]
-struct Dealt {
-    side: Side,
-    price: u32,
-    shares: u32,
-    ending: Ending,
-}
-
-impl fmt::Display for Dealt {
-    ghost output = { λ d. Some (side_word d.side ++ 32 ∷ (decimal d.price ++ 32 ∷ (decimal d.shares ++ 32 ∷ (shown (cell_of d.ending.held) ++ 32 ∷ shown (cell_of d.ending.other))))) };
-
-    fn fmt<W: fmt::Write>(&self, f: &mut fmt::Formatter<W>) -> fmt::Result {
-        let Dealt {
-            side,
-            price,
-            shares,
-            ending,
-        } = *self;
-        write!(f, "{side} {price} {shares} {ending}")
+    // The resting number of a trade, the venue of a send or a reply, the reason's number of a take-off; else 0.
+    pub fn other(&self) -> u32
+        ensures { result ≡ other_of self.now.what }
+    {
+        match self.what {
+            What::Trade { resting } => resting,
+            What::Sent { venue } | What::Back { venue, .. } => venue,
+            What::Off(why) => why.into(),
+            What::In | What::Rest { .. } => 0,
+        }
     }
 }
 
@@ -133,20 +82,16 @@ impl fmt::Display for Report {
             side,
             price,
             shares,
-            held,
-            other,
         } = *self;
-        let ending = Ending {
-            held: held_figure(what, held),
-            other: other_figure(what, other),
-        };
-        let dealt = Dealt {
-            side,
-            price,
-            shares,
-            ending,
-        };
-        write!(f, "{what} {number} {user} {dealt}")
+        write!(f, "{what} {number} {user} {side} {price} {shares} ")?;
+        match what {
+            What::In => write!(f, "- -"),
+            What::Trade { resting } => write!(f, "- {resting}"),
+            What::Sent { venue } => write!(f, "- {venue}"),
+            What::Rest { held } => write!(f, "{held} -"),
+            What::Off(why) => write!(f, "- {}", u32::from(why)),
+            What::Back { unfilled, venue } => write!(f, "{unfilled} {venue}"),
+        }
     }
 }
 
@@ -155,7 +100,7 @@ impl fmt::Display for Refusal {
     ghost output = { λ r. Some (refusal_line (refusal_number r)) };
 
     fn fmt<W: fmt::Write>(&self, f: &mut fmt::Formatter<W>) -> fmt::Result {
-        let code = self.code();
-        write!(f, "no - - - - - - {code}")
+        let number = u32::from(*self);
+        write!(f, "no - - - - - - {number}")
     }
 }

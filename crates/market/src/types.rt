@@ -1,12 +1,12 @@
 // The plain values of the market. A price counts ten-thousandths of a dollar.
-#[derive(Clone, Copy, PartialEq, Eq)]
+#[derive(Clone, Copy, PartialEq, Eq, Debug)]
 pub enum Side {
     Buy,
     Sell,
 }
 
 // What an order does with the shares that it cannot trade at once: L, B, I and S in an order file.
-#[derive(Clone, Copy)]
+#[derive(Clone, Copy, PartialEq, Eq, Debug)]
 pub enum Kind {
     // L: goes out to better away quotations, and rests.
     Limit,
@@ -19,7 +19,7 @@ pub enum Kind {
 }
 
 // An order that rests: displayed shares, and a reserve that is held back.
-#[derive(Clone, Copy, PartialEq, Eq)]
+#[derive(Clone, Copy, PartialEq, Eq, Debug)]
 pub struct Resting {
     pub number: u32,
     pub user: u32,
@@ -31,7 +31,7 @@ pub struct Resting {
 }
 
 // Shares sent out to an away quotation, until the reply comes.
-#[derive(Clone, Copy, PartialEq, Eq)]
+#[derive(Clone, Copy, PartialEq, Eq, Debug)]
 pub struct Route {
     pub number: u32,
     pub user: u32,
@@ -45,7 +45,7 @@ pub struct Route {
 }
 
 // An away quotation: one line of a board.
-#[derive(Clone, Copy)]
+#[derive(Clone, Copy, PartialEq, Eq, Debug)]
 pub struct Quotation {
     pub venue: u32,
     pub price: u32,
@@ -53,7 +53,7 @@ pub struct Quotation {
 }
 
 // An order in hand: accepted, and not yet worked to its end.
-#[derive(Clone, Copy)]
+#[derive(Clone, Copy, PartialEq, Eq, Debug)]
 pub struct Order {
     pub number: u32,
     pub user: u32,
@@ -65,7 +65,7 @@ pub struct Order {
 }
 
 // The terms of an entry or a replacement.
-#[derive(Clone, Copy)]
+#[derive(Clone, Copy, PartialEq, Eq, Debug)]
 pub struct Terms {
     pub price: u32,
     pub size: u32,
@@ -74,19 +74,25 @@ pub struct Terms {
     pub user: u32,
 }
 
-// What a report tells of.
-#[derive(Clone, Copy)]
+// What a report tells of, with what only that kind of report tells.
+#[derive(Clone, Copy, PartialEq, Eq, Debug)]
 pub enum What {
+    // An order was accepted.
     In,
-    Trade,
-    Sent,
-    Rest,
-    Off,
-    Back,
+    // The order in hand traded with a resting order: that one's number.
+    Trade { resting: u32 },
+    // Shares were sent to a venue.
+    Sent { venue: u32 },
+    // The order in hand came to rest: the shares that it holds back.
+    Rest { held: u32 },
+    // Shares were taken off.
+    Off(Reason),
+    // A venue replied: the shares that it did not fill.
+    Back { unfilled: u32, venue: u32 },
 }
 
-// One report. A field that its kind does not use is 0.
-#[derive(Clone, Copy)]
+// One report. The number of a trade is that of the order in hand.
+#[derive(Clone, Copy, PartialEq, Eq, Debug)]
 pub struct Report {
     pub what: What,
     pub number: u32,
@@ -94,13 +100,10 @@ pub struct Report {
     pub side: Side,
     pub price: u32,
     pub shares: u32,
-    pub held: u32,
-    // The resting number of a trade, the venue of a send or a reply, the reason of a take-off.
-    pub other: u32,
 }
 
 // Why shares were taken off.
-#[derive(Clone, Copy)]
+#[derive(Clone, Copy, PartialEq, Eq, Debug)]
 pub enum Reason {
     Cancelled,
     Cut,
@@ -116,7 +119,7 @@ pub enum Reason {
 }
 
 // Why a call is refused.
-#[derive(Clone, Copy)]
+#[derive(Clone, Copy, PartialEq, Eq, Debug)]
 pub enum Refusal {
     WrongPass,
     User,
@@ -136,7 +139,7 @@ pub enum Refusal {
 }
 
 // What one step of work does: the first rule that applies.
-#[derive(Clone, Copy)]
+#[derive(Clone, Copy, PartialEq, Eq, Debug)]
 pub enum Move {
     // Trade with the first resting order across: its number, price and displayed shares.
     Trade { number: u32, price: u32, shown: u32 },
@@ -148,7 +151,7 @@ pub enum Move {
 }
 
 // One call on a book. Work is one step of the order in hand.
-#[derive(Clone, Copy)]
+#[derive(Clone, Copy, PartialEq, Eq, Debug)]
 pub enum Call {
     Enter(Side, Terms),
     Work,
