@@ -15,8 +15,6 @@ pub(crate) fn in_report_of(o: Order) -> Report
         side: o.side,
         price: o.limit,
         shares: o.shares,
-        held: 0,
-        other: 0,
     }
 }
 
@@ -24,14 +22,12 @@ pub(crate) fn trade_report_of(o: Order, number: u32, price: u32, k: u32) -> Repo
     ensures { result ≡ trade_report o number price k }
 {
     Report {
-        what: What::Trade,
+        what: What::Trade { resting: number },
         number: o.number,
         user: o.user,
         side: o.side,
         price,
         shares: k,
-        held: 0,
-        other: number,
     }
 }
 
@@ -39,14 +35,12 @@ pub(crate) fn sent_report_of(o: Order, q: Quotation, number: u32, k: u32) -> Rep
     ensures { result ≡ sent_report o q number k }
 {
     Report {
-        what: What::Sent,
+        what: What::Sent { venue: q.venue },
         number,
         user: o.user,
         side: o.side,
         price: q.price,
         shares: k,
-        held: 0,
-        other: q.venue,
     }
 }
 
@@ -55,14 +49,12 @@ pub(crate) fn rest_report_of(o: Order) -> Report
 {
     let p = to_rest(o);
     Report {
-        what: What::Rest,
+        what: What::Rest { held: p.held },
         number: o.number,
         user: o.user,
         side: o.side,
         price: o.limit,
         shares: p.shown,
-        held: p.held,
-        other: 0,
     }
 }
 
@@ -70,14 +62,12 @@ pub(crate) fn off_report_of(why: Reason, k: u32, side: Side, p: Resting) -> Repo
     ensures { result ≡ off_report why k side p }
 {
     Report {
-        what: What::Off,
+        what: What::Off(why),
         number: p.number,
         user: p.user,
         side,
         price: p.price,
         shares: k,
-        held: 0,
-        other: why.code(),
     }
 }
 
@@ -85,14 +75,12 @@ pub(crate) fn off_hand_report(why: Reason, o: Order) -> Report
     ensures { result ≡ off_hand why o }
 {
     Report {
-        what: What::Off,
+        what: What::Off(why),
         number: o.number,
         user: o.user,
         side: o.side,
         price: o.limit,
         shares: o.shares,
-        held: 0,
-        other: why.code(),
     }
 }
 
@@ -101,13 +89,14 @@ pub(crate) fn back_report_of(filled: u32, r: Route) -> Report
     ensures { result ≡ back_report filled r }
 {
     Report {
-        what: What::Back,
+        what: What::Back {
+            unfilled: r.out - filled,
+            venue: r.venue,
+        },
         number: r.number,
         user: r.user,
         side: r.side,
         price: r.price,
         shares: filled,
-        held: r.out - filled,
-        other: r.venue,
     }
 }

@@ -11,7 +11,7 @@ use Rattle.market.specs.declared.types.Quotation.{Quotation}
 use Rattle.market.specs.declared.types.Order.{Order}
 use Rattle.market.specs.declared.types.Terms.{Terms}
 use Rattle.market.specs.declared.types.Report.{Report}
-use Rattle.market.specs.declared.types.What.TheVariants.{Trade, Sent}
+use Rattle.market.specs.declared.types.What.TheVariants.{Sent}
 use Rattle.market.specs.declared.types.Refusal.{Refusal}
 use Rattle.market.specs.declared.types.Refusal.TheVariants.{NotResting, CutTooLarge, NotOut, ReplyTooLarge, NoPass, WrongPass}
 use Rattle.market.specs.declared.types.Move.{Move}
@@ -73,7 +73,7 @@ module _ (k : ℕ) (x : Quotation) where
       let other = ne_eqb x.venue v (λ z. ne (sym z)) in
       rw (self, other) (cond_both (eqb x.size k) _ _ (λ w. size_at v w ≡ size_at v ys) (λ _. refl) (λ _. rw other)))
 
-sends : (s : State) (q : Quotes) {c : Call} {p : Pass} {t : Outcome} → Happens s q c p t → Each Sent (λ r. Sends s q p r t) t.says
+sends : (s : State) (q : Quotes) {c : Call} {p : Pass} {t : Outcome} → Happens s q c p t → Each is_sent (λ r. Sends s q p r t) t.says
 sends s q (sending {o = o} x f z) =
     let m = made_by z in
     let d : Side = across_of o.side in
@@ -93,25 +93,25 @@ sends s q (sending {o = o} x f z) =
       number = refl;
       route = refl;
     })
-sends s q (refusal why z) = silent is_sent refl refl
-sends s q (trading y g f z) = silent is_sent refl refl
-sends s q (leaving why g z) = silent is_sent refl refl
-sends s q (resting g z) = silent is_sent refl refl
-sends s q (entering z) = silent is_sent refl refl
-sends s q (cancelling p f z) = silent is_sent refl refl
-sends s q (cutting p f z l) = silent is_sent refl refl
-sends s q (replacing p f z g ne) = silent is_sent refl refl
-sends s q (filling p r g f z l) = silent is_sent refl refl
-sends s q (returning r f z l) = silent is_sent refl refl
-sends s q (lapsing r f z l) = silent is_sent refl refl
-sends s q closing = silent is_sent refl refl
-sends s q (expiring d y ys f z) = silent is_sent refl refl
+sends s q (refusal why z) = silent is_sent refl
+sends s q (trading y g f z) = silent is_sent refl
+sends s q (leaving why g z) = silent is_sent refl
+sends s q (resting g z) = silent is_sent refl
+sends s q (entering z) = silent is_sent refl
+sends s q (cancelling p f z) = silent is_sent refl
+sends s q (cutting p f z l) = silent is_sent refl
+sends s q (replacing p f z g ne) = silent is_sent refl
+sends s q (filling p r g f z l) = silent is_sent refl
+sends s q (returning r f z l) = silent is_sent refl
+sends s q (lapsing r f z l) = silent is_sent refl
+sends s q closing = silent is_sent refl
+sends s q (expiring d y ys f z) = silent is_sent refl
 
 pub sent_within : SentWithin
-sent_within q c s p r h e = (sends s q (nothing_else q c s p)).each r h e
+sent_within q c s p r v h e = (sends s q (nothing_else q c s p)).each r h (ap is_sent e)
 
-unmoved : (s : State) (q : Quotes) {c : Call} {p : Pass} {t : Outcome} → Happens s q c p t → ((r : Report) → Reported r t.says → r.what ≢ Sent) → t.quotes ≡ q
-unmoved s q (sending x f z) h = absurd (h _ (inl refl) refl)
+unmoved : (s : State) (q : Quotes) {c : Call} {p : Pass} {t : Outcome} → Happens s q c p t → ((r : Report) (v : ℕ) → Reported r t.says → r.what ≢ Sent v) → t.quotes ≡ q
+unmoved s q (sending x f z) h = absurd (h _ _ (inl refl) refl)
 unmoved s q (refusal why z) h = refl
 unmoved s q (trading y g f z) h = refl
 unmoved s q (leaving why g z) h = refl
@@ -151,7 +151,7 @@ some_traded s o x e a h =
     let d : Side = across_of o.side in
     some_shown s.next o.shares x (every_first (resting_fair s.next) x (on d s) e (fair_of d s h)) (some_able o a)
 
-trades : (s : State) (q : Quotes) {c : Call} {p : Pass} {t : Outcome} → Happens s q c p t → Each Trade (Trades s q p) t.says
+trades : (s : State) (q : Quotes) {c : Call} {p : Pass} {t : Outcome} → Happens s q c p t → Each is_trade (Trades s q p) t.says
 trades s q (trading {o = o} y g f z) =
     let m = made_by z in
     let d : Side = across_of o.side in
@@ -169,22 +169,22 @@ trades s q (trading {o = o} y g f z) =
       limit = u.0;
       through = λ e. none_better d y.price (quoted d q) (past_none (trades_past o.kind) (any_better d y.price (quoted d q)) u.1 e);
     })
-trades s q (refusal why z) = silent is_trade refl refl
-trades s q (sending x g z) = silent is_trade refl refl
-trades s q (leaving why g z) = silent is_trade refl refl
-trades s q (resting g z) = silent is_trade refl refl
-trades s q (entering z) = silent is_trade refl refl
-trades s q (cancelling p f z) = silent is_trade refl refl
-trades s q (cutting p f z l) = silent is_trade refl refl
-trades s q (replacing p f z g ne) = silent is_trade refl refl
-trades s q (filling p r g f z l) = silent is_trade refl refl
-trades s q (returning r f z l) = silent is_trade refl refl
-trades s q (lapsing r f z l) = silent is_trade refl refl
-trades s q closing = silent is_trade refl refl
-trades s q (expiring d y ys f z) = silent is_trade refl refl
+trades s q (refusal why z) = silent is_trade refl
+trades s q (sending x g z) = silent is_trade refl
+trades s q (leaving why g z) = silent is_trade refl
+trades s q (resting g z) = silent is_trade refl
+trades s q (entering z) = silent is_trade refl
+trades s q (cancelling p f z) = silent is_trade refl
+trades s q (cutting p f z l) = silent is_trade refl
+trades s q (replacing p f z g ne) = silent is_trade refl
+trades s q (filling p r g f z l) = silent is_trade refl
+trades s q (returning r f z l) = silent is_trade refl
+trades s q (lapsing r f z l) = silent is_trade refl
+trades s q closing = silent is_trade refl
+trades s q (expiring d y ys f z) = silent is_trade refl
 
 pub no_trade_through : NoTradeThrough
-no_trade_through q c s p r h e = (trades s q (nothing_else q c s p)).each r h e
+no_trade_through q c s p r n h e = (trades s q (nothing_else q c s p)).each r h (ap is_trade e)
 
 -- what is left in hand
 

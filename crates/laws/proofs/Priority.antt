@@ -12,7 +12,7 @@ use Rattle.market.specs.declared.types.Call.{Call}
 use Rattle.market.specs.Sides.{across_of, ahead, resting_before}
 use Rattle.market.specs.States.{State, Quotes, new_state, on, put}
 use Rattle.market.specs.Orders.{less, refresh, trimmed, settled, traded, rested}
-use Rattle.market.specs.Reports.{rest_report}
+use Rattle.market.specs.Reports.{held_of as told_held, other_of, rest_report}
 use Rattle.market.specs.Calls.{Pass, ready, Outcome, call}
 use Rattle.soundness.specs.Stands.{Among as AmongLines}
 use Rattle.laws.specs.Strings.{Turn, does, state_after, pass_after}
@@ -261,28 +261,28 @@ stays_ahead_after (t ∷ ts) s p d n x r late a f g =
 
 -- an order reported to rest with nothing held back has only elders before it
 abbrev pub StandsFirm : State → Report → Type 0
-StandsFirm s r = r.held ≡ 0 → Firm r.side r.number r.price r.shares [] (on r.side s)
+StandsFirm s r = r.what ≡ Rest 0 → Firm r.side r.number r.price r.shares [] (on r.side s)
 
-pub rest_firm : (s : State) (q : Quotes) {c : Call} {p : Pass} {o : Outcome} → Happens s q c p o → Each Rest (StandsFirm o.state) o.says
+pub rest_firm : (s : State) (q : Quotes) {c : Call} {p : Pass} {o : Outcome} → Happens s q c p o → Each is_rest (StandsFirm o.state) o.says
 rest_firm s q (resting {o = o} f z) =
     alone (rest_report o)
-    (λ none. rw (put_here o.side (place (resting_before o.side) (rested o) (on o.side s)) s) (firm_new o.side (rested o) (on o.side s) (fits_absent o.number s o.side f) none))
-rest_firm s q (refusal why z) = silent is_rest refl refl
-rest_firm s q (trading y g f z) = silent is_rest refl refl
-rest_firm s q (sending y g z) = silent is_rest refl refl
-rest_firm s q (leaving why g z) = silent is_rest refl refl
-rest_firm s q (entering z) = silent is_rest refl refl
-rest_firm s q (cancelling p f z) = silent is_rest refl refl
-rest_firm s q (cutting p f z l) = silent is_rest refl refl
-rest_firm s q (replacing p f z g ne) = silent is_rest refl refl
-rest_firm s q (filling p y g f z l) = silent is_rest refl refl
-rest_firm s q (returning y f z l) = silent is_rest refl refl
-rest_firm s q (lapsing y f z l) = silent is_rest refl refl
-rest_firm s q closing = silent is_rest refl refl
-rest_firm s q (expiring d y ys f z) = silent is_rest refl refl
+    (λ e. let none : (rested o).held ≡ 0 = ap told_held e in rw (put_here o.side (place (resting_before o.side) (rested o) (on o.side s)) s) (firm_new o.side (rested o) (on o.side s) (fits_absent o.number s o.side f) none))
+rest_firm s q (refusal why z) = silent is_rest refl
+rest_firm s q (trading y g f z) = silent is_rest refl
+rest_firm s q (sending y g z) = silent is_rest refl
+rest_firm s q (leaving why g z) = silent is_rest refl
+rest_firm s q (entering z) = silent is_rest refl
+rest_firm s q (cancelling p f z) = silent is_rest refl
+rest_firm s q (cutting p f z l) = silent is_rest refl
+rest_firm s q (replacing p f z g ne) = silent is_rest refl
+rest_firm s q (filling p y g f z l) = silent is_rest refl
+rest_firm s q (returning y f z l) = silent is_rest refl
+rest_firm s q (lapsing y f z l) = silent is_rest refl
+rest_firm s q closing = silent is_rest refl
+rest_firm s q (expiring d y ys f z) = silent is_rest refl
 
 pub time_priority_lem : TimePriority
-time_priority_lem n ts₀ t ts u r x rests is-r bare stays trades is_x across price late =
+time_priority_lem n ts₀ t ts u r x m rests bare stays trades is_x across price late =
     let s₀ : State = state_after ts₀ (new_state n) ready in
     let p₀ : Pass = pass_after ts₀ (new_state n) ready in
     let s₁ : State = (does t s₀ p₀).state in
@@ -292,9 +292,9 @@ time_priority_lem n ts₀ t ts u r x rests is-r bare stays trades is_x across pr
     let d : Side = r.side in
     let a₀ : Apart (on d s₀) = apart_after d ts₀ (new_state n) ready (apart_new d n) in
     let a₁ : Apart (on d s₁) = apart_after d (t ∷ []) s₀ p₀ a₀ in
-    let f₁ = (rest_firm s₀ t.quotes (nothing_else t.quotes t.call s₀ p₀)).each r rests is-r bare in
+    let f₁ = (rest_firm s₀ t.quotes (nothing_else t.quotes t.call s₀ p₀)).each r rests (ap is_rest bare) bare in
     let f₂ = stays_ahead_after ts s₁ p₁ d r.number r.price r.shares [] a₁ f₁ stays in
-    let y = no_trade_through u.quotes u.call s₂ p₂ x trades is_x in
+    let y = no_trade_through u.quotes u.call s₂ p₂ x m trades is_x in
     let e : across_of y.order.side ≡ d = ap across_of (sym y.told.0) ∙ across in
     firm_first d r.number r.price f₂.0 (latecomers d [] ts s₁ p₁) y.taken (on d s₂) (rw e at y.first) f₂.1
-    (sym y.told.1 ∙ price) (rw y.told.2 at late)
+    (sym y.told.1 ∙ price) (subst (λ (i : ℕ). InList i (latecomers d [] ts s₁ p₁)) (ap other_of (sym is_x ∙ y.told.2)) late)

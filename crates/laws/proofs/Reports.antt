@@ -9,32 +9,32 @@ use Rattle.market.specs.Calls.{Says, reports, refused}
 use Rattle.laws.specs.Strings.{Listed, Reported}
 
 -- each report of a kind has the property
-pub record Each (k : What) (P : Report → Type 0) (y : Says) : Type 0 where
-  pub each : (x : Report) → Reported x y → x.what ≡ k → P x
+pub record Each (t : What → Bool) (P : Report → Type 0) (y : Says) : Type 0 where
+  pub each : (x : Report) → Reported x y → t x.what ≡ true → P x
 
 abbrev pub is_trade : What → Bool
-is_trade Trade = true
+is_trade (Trade n) = true
 is_trade In = false
-is_trade Sent = false
-is_trade Rest = false
-is_trade Off = false
-is_trade Back = false
+is_trade (Sent v) = false
+is_trade (Rest held) = false
+is_trade (Off why) = false
+is_trade (Back unfilled v) = false
 
 abbrev pub is_sent : What → Bool
-is_sent Sent = true
+is_sent (Sent v) = true
 is_sent In = false
-is_sent Trade = false
-is_sent Rest = false
-is_sent Off = false
-is_sent Back = false
+is_sent (Trade n) = false
+is_sent (Rest held) = false
+is_sent (Off why) = false
+is_sent (Back unfilled v) = false
 
 abbrev pub is_rest : What → Bool
-is_rest Rest = true
+is_rest (Rest held) = true
 is_rest In = false
-is_rest Trade = false
-is_rest Sent = false
-is_rest Off = false
-is_rest Back = false
+is_rest (Trade n) = false
+is_rest (Sent v) = false
+is_rest (Off why) = false
+is_rest (Back unfilled v) = false
 
 abbrev pub none_said : (What → Bool) → Says → Bool
 none_said t (reports rs) = every (λ r. not (t r.what)) rs
@@ -47,10 +47,10 @@ none_among t (r ∷ rs) h x w e =
     elim w [ inl z ↦ both_ways (t r.what) (not-true (t r.what) p.0) (ap (λ (y : Report). t y.what) z ∙ e) | inr v ↦ none_among t rs p.1 x v e ]
 
 -- no report of the kind
-pub silent : (t : What → Bool) {k : What} {P : Report → Type 0} {y : Says} → t k ≡ true → none_said t y ≡ true → Each k P y
-silent t {y = reports rs} h e = record { each = λ x w z. absurd (none_among t rs e x w (ap t z ∙ h)) }
-silent t {y = refused m} h e = record { each = λ x w z. absurd w }
+pub silent : (t : What → Bool) {P : Report → Type 0} {y : Says} → none_said t y ≡ true → Each t P y
+silent t {y = reports rs} e = record { each = λ x w z. absurd (none_among t rs e x w z) }
+silent t {y = refused m} e = record { each = λ x w z. absurd w }
 
 -- one report
-pub alone : {k : What} {P : Report → Type 0} (r : Report) → P r → Each k P (reports (r ∷ []))
+pub alone : {t : What → Bool} {P : Report → Type 0} (r : Report) → P r → Each t P (reports (r ∷ []))
 alone {P = P} r h = record { each = λ x w z. elim w [ inl v ↦ subst P v h | inr v ↦ absurd v ] }

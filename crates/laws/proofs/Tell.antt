@@ -11,13 +11,14 @@ use Rattle.market.specs.declared.types.Order.{Order}
 use Rattle.market.specs.declared.types.Report.{Report}
 use Rattle.market.specs.declared.types.What.{What}
 use Rattle.market.specs.declared.types.What.TheVariants.{In, Trade, Off}
+use Rattle.market.specs.declared.types.Reason.{Reason}
 use Rattle.market.specs.declared.types.Refusal.TheVariants.{NotResting, NotOut}
 use Rattle.market.specs.declared.types.Call.{Call}
 use Rattle.market.specs.declared.types.Call.TheVariants.{Work, Cancel, Reply}
 use Rattle.market.specs.Sides.{across_of}
 use Rattle.market.specs.States.{State, state, no_quotes, on, put, numbered, resting_bears, route_bears}
 use Rattle.market.specs.Orders.{total, next_show, returned}
-use Rattle.market.specs.Reports.{refusal_number, trade_report, back_report}
+use Rattle.market.specs.Reports.{refusal_number, held_of, other_of, trade_report, back_report}
 use Rattle.market.specs.Calls.{Pass, ready, ended, in_hand, Says, reports, refused, Outcome, refuse, hand_back, reply_at}
 use Rattle.market.specs.Sound.{resting_fair, Sound}
 use Rattle.laws.specs.Strings.{does}
@@ -74,8 +75,8 @@ judge k s s' cs x x' e e' l read =
 judge_what : (k : ℕ) (s s' : State) (cs : List Call) (x x' : List Answer) → answers (asks cs) s ready ≡ x → answers (asks cs) s' ready ≡ x' → length cs ≤ k → (first_what (last_said x) ≢ first_what (last_said x')) → Told k s ready s' ready
 judge_what k s s' cs x x' e e' l ne = (cs, l, λ same. ne (ap (λ (z : List Answer). first_what (last_said z)) (sym e ∙ same ∙ e')))
 
-off_trade : Off ≢ Trade
-off_trade e = let z : ◌≡◌ {A = ℕ} 0 1 = cc in omega arith
+off_trade : (why : Reason) (n : ℕ) → Off why ≢ Trade n
+off_trade why n e = let z : ◌≡◌ {A = ℕ} 0 1 = cc in omega arith
 
 infixl 20 ◌>>=◌
 ◌>>=◌ : {A B D : Type 0} → A ⊎ D → (A → B ⊎ D) → B ⊎ D
@@ -191,7 +192,7 @@ module _ (d : Side) (s s' : State) (g : Ground d s) (g' : Ground d s') (two : s.
   -- the first orders of the two sides, once what stands behind them is judged
   firsts : (a a' : Resting) (xs ys : List Resting) → Row s.next os (a ∷ xs) → Row s'.next os' (a' ∷ ys) → (map line xs ≡ map line ys) ⊎ Told (length xs + 3) (put d xs s) ready (put d ys s') ready → (map line (a ∷ xs) ≡ map line (a' ∷ ys)) ⊎ Told (length (a ∷ xs) + 3) (put d (a ∷ xs) s) ready (put d (a' ∷ ys) s') ready
   firsts a a' xs ys r r' behind =
-      met (λ z. z.other) >>= λ n.
+      met (λ z. other_of z.what) >>= λ n.
       met (λ z. z.price) >>= λ p.
       met (λ z. z.shares) >>= λ m.
       let z : a.shown + a.held ≤ 999999 = r.0.size in
@@ -249,9 +250,9 @@ module _ (d : Side) (s s' : State) (g : Ground d s) (g' : Ground d s') (two : s.
   sides : (ps ps' : List Resting) → Row s.next os ps → Row s'.next os' ps' → (map line ps ≡ map line ps') ⊎ Told (length ps + 3) (put d ps s) ready (put d ps' s') ready
   sides [] [] r r' = inl refl
   sides [] (a' ∷ ys) r r' =
-      inr (judge_what _ (put d [] s) (put d (a' ∷ ys) s') (sweep d big ∷ Work ∷ []) _ _ (meets_none d s g) (meets_row d s' g' os' a' ys r') (omega arith) off_trade)
+      inr (judge_what _ (put d [] s) (put d (a' ∷ ys) s') (sweep d big ∷ Work ∷ []) _ _ (meets_none d s g) (meets_row d s' g' os' a' ys r') (omega arith) (off_trade _ _))
   sides (a ∷ xs) [] r r' =
-      inr (judge_what _ (put d (a ∷ xs) s) (put d [] s') (sweep d big ∷ Work ∷ []) _ _ (meets_row d s g os a xs r) (meets_none d s' g') (omega arith) (λ e. off_trade (sym e)))
+      inr (judge_what _ (put d (a ∷ xs) s) (put d [] s') (sweep d big ∷ Work ∷ []) _ _ (meets_row d s g os a xs r) (meets_none d s' g') (omega arith) (λ e. off_trade _ _ (sym e)))
   sides (a ∷ xs) (a' ∷ ys) r r' = firsts a a' xs ys r r' (sides xs ys r.1 r'.1)
 
 -- open routes: a reply of 0 shows the route of a number
@@ -346,8 +347,8 @@ module _ (s s' : State) where
       reads (of_report (λ z. z.user)) >>= λ u.
       reads (of_report (λ z. side_number z.side)) >>= λ d.
       reads (of_report (λ z. z.price)) >>= λ p.
-      reads (of_report (λ z. z.other)) >>= λ v.
-      reads (of_report (λ z. z.held)) >>= λ m.
+      reads (of_report (λ z. other_of z.what)) >>= λ v.
+      reads (of_report (λ z. held_of z.what)) >>= λ m.
       reads (λ a. of_hand (λ z. z.limit) a.pass) >>= λ l.
       reads (λ a. of_hand (λ z. z.show) a.pass) >>= λ w.
       let m' : r.out - 0 ≡ r'.out - 0 = m in

@@ -29,28 +29,28 @@ shares_in_hand (in_hand o) = o.shares
 
 -- the shares of the reports of one kind
 abbrev pub trade_shares : What → ℕ → ℕ
-trade_shares Trade n = n
+trade_shares (Trade m) n = n
 trade_shares In n = 0
-trade_shares Sent n = 0
-trade_shares Rest n = 0
-trade_shares Off n = 0
-trade_shares Back n = 0
+trade_shares (Sent v) n = 0
+trade_shares (Rest held) n = 0
+trade_shares (Off why) n = 0
+trade_shares (Back unfilled v) n = 0
 
 abbrev pub back_shares : What → ℕ → ℕ
-back_shares Back n = n
+back_shares (Back unfilled v) n = n
 back_shares In n = 0
-back_shares Trade n = 0
-back_shares Sent n = 0
-back_shares Rest n = 0
-back_shares Off n = 0
+back_shares (Trade m) n = 0
+back_shares (Sent v) n = 0
+back_shares (Rest held) n = 0
+back_shares (Off why) n = 0
 
 abbrev pub off_shares : What → ℕ → ℕ
-off_shares Off n = n
+off_shares (Off why) n = n
 off_shares In n = 0
-off_shares Trade n = 0
-off_shares Sent n = 0
-off_shares Rest n = 0
-off_shares Back n = 0
+off_shares (Trade m) n = 0
+off_shares (Sent v) n = 0
+off_shares (Rest held) n = 0
+off_shares (Back unfilled v) n = 0
 
 abbrev pub sum_of : (What → ℕ → ℕ) → List Report → ℕ
 sum_of f [] = 0

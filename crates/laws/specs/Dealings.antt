@@ -34,7 +34,7 @@ pub record Sends (s : State) (q : Quotes) (p : Pass) (r : Report) (t : Outcome) 
   pub first : Some quotation ≡ head_of (quoted (across_of order.side) q)
   pub limit : within order.side order.limit quotation.price ≡ true
   -- both are those of the report
-  pub told : (r.side ≡ order.side) × (r.price ≡ quotation.price) × (r.other ≡ quotation.venue)
+  pub told : (r.side ≡ order.side) × (r.price ≡ quotation.price) × (r.what ≡ Sent quotation.venue)
   -- no more is sent than is in hand and than the quotation shows; and some is, if the order and the board are legal
   pub most : (r.shares ≤ order.shares) × (r.shares ≤ quotation.size)
   pub some : able order ≡ true → Shown q → 0 < r.shares
@@ -49,12 +49,12 @@ pub record Sends (s : State) (q : Quotes) (p : Pass) (r : Report) (t : Outcome) 
 -- SENT WITHIN: shares that a call reports sent go to the first quotation across, within the limit, and the board loses exactly these
 abbrev pub SentWithin : Type 0
 SentWithin =
-    (q : Quotes) (c : Call) (s : State) (p : Pass) (r : Report) → Reported r (call q c s p).says → r.what ≡ Sent → Sends s q p r (call q c s p)
+    (q : Quotes) (c : Call) (s : State) (p : Pass) (r : Report) (v : ℕ) → Reported r (call q c s p).says → r.what ≡ Sent v → Sends s q p r (call q c s p)
 
 -- BOARD ELSE UNMOVED: a call that reports no shares sent leaves the board as it was
 abbrev pub BoardElseUnmoved : Type 0
 BoardElseUnmoved =
-    (q : Quotes) (c : Call) (s : State) (p : Pass) → ((r : Report) → Reported r (call q c s p).says → r.what ≢ Sent) → (call q c s p).quotes ≡ q
+    (q : Quotes) (c : Call) (s : State) (p : Pass) → ((r : Report) (v : ℕ) → Reported r (call q c s p).says → r.what ≢ Sent v) → (call q c s p).quotes ≡ q
 
 -- what a report r of a trade says of the book, the board and the pass before
 pub record Trades (s : State) (q : Quotes) (p : Pass) (r : Report) : Type 0 where
@@ -64,7 +64,7 @@ pub record Trades (s : State) (q : Quotes) (p : Pass) (r : Report) : Type 0 wher
   pub hand : p ≡ in_hand order
   pub first : Some taken ≡ head_of (on (across_of order.side) s)
   -- both are those of the report, and the price is the resting order's
-  pub told : (r.side ≡ order.side) × (r.price ≡ taken.price) × (r.other ≡ taken.number)
+  pub told : (r.side ≡ order.side) × (r.price ≡ taken.price) × (r.what ≡ Trade taken.number)
   -- no more is traded than is in hand and than is displayed; and some is, if the order and the book are sound
   pub most : (r.shares ≤ order.shares) × (r.shares ≤ taken.shown)
   pub some : able order ≡ true → Sound s → 0 < r.shares
@@ -75,7 +75,7 @@ pub record Trades (s : State) (q : Quotes) (p : Pass) (r : Report) : Type 0 wher
 -- NO TRADE-THROUGH: every trade is within the limit, and none is at a price than which a quotation across is better, unless the kind may
 abbrev pub NoTradeThrough : Type 0
 NoTradeThrough =
-    (q : Quotes) (c : Call) (s : State) (p : Pass) (r : Report) → Reported r (call q c s p).says → r.what ≡ Trade → Trades s q p r
+    (q : Quotes) (c : Call) (s : State) (p : Pass) (r : Report) (n : ℕ) → Reported r (call q c s p).says → r.what ≡ Trade n → Trades s q p r
 
 -- the order o less k shares, the same in all else
 pub record Less (k : ℕ) (o o' : Order) : Type 0 where

@@ -39,11 +39,11 @@ reports_by ts = reports_said (said ts (new_state 1) ready)
 -- the shares of an in report
 abbrev pub in_shares : What → ℕ → ℕ
 in_shares In n = n
-in_shares Trade n = 0
-in_shares Sent n = 0
-in_shares Rest n = 0
-in_shares Off n = 0
-in_shares Back n = 0
+in_shares (Trade m) n = 0
+in_shares (Sent v) n = 0
+in_shares (Rest held) n = 0
+in_shares (Off why) n = 0
+in_shares (Back unfilled v) n = 0
 
 -- every share that came in is accounted for: it traded (each trade takes as many of two orders), was filled away, was taken off,
 -- rests in the book, is sent out, or is in hand
@@ -59,20 +59,20 @@ pub record Conserves (turns : List Turn) (told : List Told) (book : State) (pass
   pub after_each_call : (ts us : List Turn) → turns ≡ ts ++ us → Accounted (reports_by ts) (book_after ts) (pass_then ts)
 
 -- TIME PRIORITY: the session's calls are ts₀, t, ts, u and us; t reports that an order comes to rest (r) with nothing held back; by ts
--- it is not gone; u reports a trade (x). That trade takes no order, at its side and price, that came to rest or was refreshed during ts.
+-- it is not gone; u reports a trade (x) with the resting order m, at its side and price. The order m is none that came to rest or was refreshed during ts.
 abbrev pub KeepsPriority : List Turn → Type 0
 KeepsPriority turns =
-    (ts₀ : List Turn) (t : Turn) (ts : List Turn) (u : Turn) (us : List Turn) → turns ≡ ts₀ ++ t ∷ (ts ++ u ∷ us) → (r x : Report) →
+    (ts₀ : List Turn) (t : Turn) (ts : List Turn) (u : Turn) (us : List Turn) → turns ≡ ts₀ ++ t ∷ (ts ++ u ∷ us) → (r x : Report) (m : ℕ) →
     let s₀ : State = book_after ts₀ in
     let p₀ : Pass = pass_then ts₀ in
     let s₁ : State = (does t s₀ p₀).state in
     let p₁ : Pass = (does t s₀ p₀).pass in
     let s₂ : State = state_after ts s₁ p₁ in
     let p₂ : Pass = pass_after ts s₁ p₁ in
-    Reported r (does t s₀ p₀).says → r.what ≡ Rest → r.held ≡ 0 →
+    Reported r (does t s₀ p₀).says → r.what ≡ Rest 0 →
     Stays r.side r.number r.shares ts s₁ p₁ →
-    Reported x (does u s₂ p₂).says → x.what ≡ Trade → across_of x.side ≡ r.side → x.price ≡ r.price →
-    InList x.other (latecomers r.side [] ts s₁ p₁) → ⊥
+    Reported x (does u s₂ p₂).says → x.what ≡ Trade m → across_of x.side ≡ r.side → x.price ≡ r.price →
+    InList m (latecomers r.side [] ts s₁ p₁) → ⊥
 
 -- a session keeps the laws
 pub record Lawful (turns : List Turn) (told : List Told) (book : State) (pass : Pass) : Type 0 where
