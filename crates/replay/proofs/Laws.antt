@@ -176,7 +176,7 @@ lawful ts l s p d = record {
   book_left = k.state;
   pass_left = k.pass;
   conserves = record { at_the_end = end; after_each_call = λ us vs _. accounted us };
-  priority = λ ts₀ t us u vs _ r x. time_priority_lem 1 ts₀ t us u r x;
+  priority = λ ts₀ t us u vs _ r x m. time_priority_lem 1 ts₀ t us u r x m;
 }
   where
     k : Leads ts l (new_state 1) ready s p

@@ -17,4 +17,4 @@ text_on xs i d old new h e f = e ∙ ap (λ (bs : List ℕ). bs ++ (told_text (t
 
 -- the line that fills in past the end of a list, as the checker has it
 abbrev pub no_line : Line
-no_line = Report (record { what = In; number = 0; user = 0; side = Buy; price = 0; shares = 0; held = 0; other = 0 })
+no_line = Report (record { what = In; number = 0; user = 0; side = Buy; price = 0; shares = 0 })
