@@ -68,7 +68,7 @@ pub holds_put : (d : Side) (l : List Resting) (s : State) (p : Pass) → holds (
 holds_put Buy l s p = omega arith
 holds_put Sell l s p = omega arith
 
-none_entered : (c : Call) (n : ℕ) → entered_by c (refused n) ≡ 0
+pub none_entered : (c : Call) (n : ℕ) → entered_by c (refused n) ≡ 0
 none_entered (Enter d t) n = refl
 none_entered Work n = refl
 none_entered (Cut k user m) n = refl

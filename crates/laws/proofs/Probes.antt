@@ -1,5 +1,5 @@
 -- What the calls that probe a book answer: a cancel, a sweep and the work on it.
-use Rattle.std.proofs.Common.{◌≡◌, ℕ, ◌+◌, ◌<◌, ◌≤◌, min, Bool, true, false, not, ◌&&◌, eqb, List, [], ◌∷◌, None, refl, subst, arith}
+use Rattle.std.proofs.Common.{◌≡◌, ℕ, ◌+◌, ◌<◌, ◌≤◌, min, Bool, true, false, not, ◌&&◌, eqb, List, [], ◌∷◌, map, None, refl, subst, arith}
 use Rattle.std.proofs.lemmas.Bool.{and_parts, and_from, not-true, eq-eqb, ne_eqb, le-leb}
 use Rattle.ranking.specs.Place.{every, locate}
 use Rattle.market.specs.declared.types.Side.{Side}
@@ -32,8 +32,7 @@ abbrev pub ask : Call → Turn
 ask c = record { quotes = no_quotes; call = c }
 
 abbrev pub asks : List Call → List Turn
-asks [] = []
-asks (c ∷ cs) = ask c ∷ asks cs
+asks = map ask
 
 pub asks_playable : (cs : List Call) → Playable (asks cs)
 asks_playable [] = tt

@@ -19,7 +19,7 @@ use Rattle.laws.specs.Strings.{Turn, does, state_after, pass_after, said}
 use Rattle.laws.specs.Happens.{Happens, refusal as refusing, trading, sending, leaving, resting as going_to_rest, entering, cancelling, cutting, replacing, filling, returning, lapsing, closing, expiring}
 use Rattle.laws.specs.Conserve.{trade_shares, back_shares, off_shares, sum_of, sum_said, entered_by, entered}
 use Rattle.laws.proofs.Happens.{nothing_else}
-use Rattle.laws.proofs.Conserve.{shares_conserved_lem}
+use Rattle.laws.proofs.Conserve.{none_entered, shares_conserved_lem}
 use Rattle.laws.proofs.Priority.{time_priority_lem}
 use Rattle.replay.specs.Days.{Told, report, refusal, tell, turn, Finishes, idle, over, steps, Performs, performs, Requotes, Does, Day, done, then}
 use Rattle.replay.specs.Laws.{reports_told, reports_of, reports_said, book_after, pass_then, reports_by, in_shares, Accounted, Lawful}
@@ -130,18 +130,8 @@ sum_reports f (reports rs ∷ xs) = let e = sum_reports f xs in let a = sum_appe
 sum_reports f (refused n ∷ xs) = sum_reports f xs
 
 -- what is entered is reported in
-none_entered : (c : Call) (n : ℕ) → 0 ≡ entered_by c (refused n)
-none_entered (Enter d t) n = refl
-none_entered Work n = refl
-none_entered (Cut k user m) n = refl
-none_entered (Cancel user m) n = refl
-none_entered (Replace t m) n = refl
-none_entered (Reply k m) n = refl
-none_entered Close n = refl
-none_entered Expire n = refl
-
 in_entered : (s : State) (q : Quotes) {c : Call} {p : Pass} {o : Outcome} → Happens s q c p o → sum_of in_shares (reports_of o.says) ≡ entered_by c o.says
-in_entered s q (refusing {c = c} why z) = none_entered c (refusal_number why)
+in_entered s q (refusing {c = c} why z) = sym (none_entered c (refusal_number why))
 in_entered s q (trading x g f z) = refl
 in_entered s q (sending x g z) = refl
 in_entered s q (leaving why g z) = refl
