@@ -1,6 +1,6 @@
 -- Each way through a call gives the outcome that the model defines.
-use Rattle.std.proofs.Common.{◌≡◌, ℕ, ◌+◌, ◌<◌, ◌≤◌, true, false, cond, eqb, leb, List, [], ◌∷◌, ◌++◌, get_or, take, drop, Some, None, Ok, Err, Option, sym, refl, ap, ◌∙◌, subst, arith}
-use Rattle.std.proofs.lemmas.Bool.{cond-true, cond-false, eq-eqb, ne_eqb, lt-ltb, le-ltb, le-leb, lt-leb}
+use Rattle.std.proofs.Common.{◌≡◌, ℕ, ◌+◌, true, false, cond, eqb, leb, ltb, List, [], ◌∷◌, ◌++◌, get_or, take, drop, Some, None, Ok, Err, Option, sym, refl, ap, ◌∙◌, subst, arith}
+use Rattle.std.proofs.lemmas.Bool.{cond-true, cond-false, eq-eqb, ne_eqb}
 use Rattle.std.specs.Option.{ok_or}
 use Rattle.ranking.specs.Place.{Spot, spot_at, Found}
 use Rattle.market.specs.declared.types.Side.{Side}
@@ -26,7 +26,7 @@ use Rattle.book.specs.declared.book.Book.{Book}
 use Rattle.book.specs.Outcomes.{book_state, seen, own_call}
 use Rattle.book.specs.Moves.{Removes, off_list}
 use Rattle.book.specs.Expiry.{first_of_two, oldest_side}
-use Rattle.book.proofs.Verdicts.{passes, fails, first_passes}
+use Rattle.book.proofs.Verdicts.{passes, fails, held, failed, first_passes}
 
 -- a call with a pass of the book's own is the model's
 pub owned : (b : Book) (id bears : ℕ) (q : Quotes) (c : Call) (p : Pass) (o : Outcome) → Ok tt ≡ verdict (unless (eqb bears b.id) WrongPass) → id ≡ b.id → o ≡ call q c (book_state b) p → record { book = id; bears = bears; outcome = o } ≡ own_call b bears q c p
@@ -64,14 +64,15 @@ module _ (s : State) (q : Quotes) where
       cut_checked : (o : Outcome) → o ≡ cut_at k (find user n s) s q → o ≡ cut_call k user n s q
       cut_checked o e = passes s q ready (cut_refusal k user) (cut_at k (find user n s) s q) o (m ∙ sym (first_passes (unless (legal_user user) User) (unless (legal_size k) Size) l)) e
 
-      pub cut_large : total x ≤ k → refuse CutTooLarge s q ready ≡ cut_call k user n s q
-      cut_large h =
-          cut_checked _ (sym (ap (λ y. cut_at k y s q) (f.1 x) ∙ cond-false _ _ _ (le-ltb k (total p.spot.line) (subst (λ (z : Resting). total z ≤ k) ex h))))
+      pub cut_large : (why : Refusal) → Err why ≡ verdict (unless (ltb k (total x)) CutTooLarge) → refuse why s q ready ≡ cut_call k user n s q
+      cut_large why h =
+          let w = failed (ltb k (total x)) CutTooLarge why h in
+          ap (λ z. refuse z s q ready) w.1 ∙ cut_checked _ (sym (ap (λ y. cut_at k y s q) (f.1 x) ∙ cond-false _ _ _ (sym (ap (λ (z : Resting). ltb k (total z)) ex) ∙ w.0)))
 
-      pub cut_done : (r : Report) (s' : State) → k < total x → r ≡ off_report Trimmed k at.side x → s' ≡ changed_to (trimmed k p.spot.line) p s → answer (r ∷ []) s' q ready ≡ cut_call k user n s q
+      pub cut_done : (r : Report) (s' : State) → Ok tt ≡ verdict (unless (ltb k (total x)) CutTooLarge) → r ≡ off_report Trimmed k at.side x → s' ≡ changed_to (trimmed k p.spot.line) p s → answer (r ∷ []) s' q ready ≡ cut_call k user n s q
       cut_done r s' h er es =
           ap (λ z. answer (z ∷ []) s' q ready) (er ∙ ap (off_report Trimmed k at.side) ex) ∙ ap (λ z. answer (off_report Trimmed k at.side p.spot.line ∷ []) z q ready) es
-          ∙ cut_checked _ (sym (ap (λ y. cut_at k y s q) (f.1 x) ∙ cond-true _ _ _ (lt-ltb k (total p.spot.line) (subst (λ (z : Resting). k < total z) ex h))))
+          ∙ cut_checked _ (sym (ap (λ y. cut_at k y s q) (f.1 x) ∙ cond-true _ _ _ (sym (ap (λ (z : Resting). ltb k (total z)) ex) ∙ held (ltb k (total x)) CutTooLarge h)))
 
   module _ (t : Terms) (n : ℕ) (at : Standing) (f : Located t.user n s (Some at)) (l : Ok tt ≡ verdict (terms_refusal t)) where
     replace_checked : (o : Outcome) → o ≡ replace_at t (find t.user n s) s q → o ≡ replace_call t n s q
@@ -95,48 +96,50 @@ module _ (s : State) (q : Quotes) where
     abbrev r : Spot Route
     r = spot_at s.routes i x
 
-    some_large : x.out < k → leb k r.line.out ≡ false
-    some_large h = lt-leb k r.line.out (subst (λ (z : Route). z.out < k) ex h)
+    out_is : leb k r.line.out ≡ leb k x.out
+    out_is = sym (ap (λ (z : Route). leb k z.out) ex)
 
-    some_small : k ≤ x.out → leb k r.line.out ≡ true
-    some_small h = le-leb k r.line.out (subst (λ (z : Route). k ≤ z.out) ex h)
+    module _ (why : Refusal) (h : Err why ≡ verdict (unless (leb k x.out) ReplyTooLarge)) where
+      pub reply_large : refuse why s q ready ≡ reply_call k n s q
+      reply_large =
+          let w = failed (leb k x.out) ReplyTooLarge why h in
+          ap (λ z. refuse z s q ready) w.1 ∙ sym (ap (λ y. reply_at k y s q) (f.1 x) ∙ cond-false _ _ _ (out_is ∙ w.0))
 
-    pub reply_large : x.out < k → refuse ReplyTooLarge s q ready ≡ reply_call k n s q
-    reply_large h = sym (ap (λ y. reply_at k y s q) (f.1 x) ∙ cond-false _ _ _ (some_large h))
+      pub late_large : refuse why s q ended ≡ late_reply_call k n s q
+      late_large =
+          let w = failed (leb k x.out) ReplyTooLarge why h in
+          ap (λ z. refuse z s q ended) w.1 ∙ sym (ap (λ y. late_reply_at k y s q) (f.1 x) ∙ cond-false _ _ _ (out_is ∙ w.0))
 
-    pub late_large : x.out < k → refuse ReplyTooLarge s q ended ≡ late_reply_call k n s q
-    late_large h = sym (ap (λ y. late_reply_at k y s q) (f.1 x) ∙ cond-false _ _ _ (some_large h))
+    module _ (h : Ok tt ≡ verdict (unless (leb k x.out) ReplyTooLarge)) (rep : Report) (s' : State) (er : rep ≡ back_report k x) (es : s' ≡ unrouted (spot_at s.routes i x) s) where
+      reply_small : answer (back_report k r.line ∷ []) (unrouted r s) q (hand_back k r.line) ≡ reply_call k n s q
+      reply_small = sym (ap (λ y. reply_at k y s q) (f.1 x) ∙ cond-true _ _ _ (out_is ∙ held (leb k x.out) ReplyTooLarge h))
 
-    reply_small : k ≤ x.out → answer (back_report k r.line ∷ []) (unrouted r s) q (hand_back k r.line) ≡ reply_call k n s q
-    reply_small h = sym (ap (λ y. reply_at k y s q) (f.1 x) ∙ cond-true _ _ _ (some_small h))
+      late_small : answer (late_reports k r.line) (unrouted r s) q ended ≡ late_reply_call k n s q
+      late_small = sym (ap (λ y. late_reply_at k y s q) (f.1 x) ∙ cond-true _ _ _ (out_is ∙ held (leb k x.out) ReplyTooLarge h))
 
-    late_small : k ≤ x.out → answer (late_reports k r.line) (unrouted r s) q ended ≡ late_reply_call k n s q
-    late_small h = sym (ap (λ y. late_reply_at k y s q) (f.1 x) ∙ cond-true _ _ _ (some_small h))
-
-    module _ (rep : Report) (s' : State) (er : rep ≡ back_report k x) (es : s' ≡ unrouted (spot_at s.routes i x) s) where
       pub reply_filled : k ≡ x.out → answer (rep ∷ []) s' q ready ≡ reply_call k n s q
-      reply_filled h =
-          let g : eqb r.line.out k ≡ true = eq-eqb r.line.out k (sym (h ∙ ap (λ z. z.out) ex)) in
+      reply_filled e =
+          let g : eqb r.line.out k ≡ true = eq-eqb r.line.out k (sym (e ∙ ap (λ z. z.out) ex)) in
           ap (λ z. answer (z ∷ []) s' q ready) (er ∙ ap (back_report k) ex) ∙ ap (λ z. answer (back_report k r.line ∷ []) z q ready) es
-          ∙ sym (ap (λ t. answer (back_report k r.line ∷ []) (unrouted r s) q (cond t ready (in_hand (returned k r.line)))) g) ∙ reply_small (omega arith)
+          ∙ sym (ap (λ t. answer (back_report k r.line ∷ []) (unrouted r s) q (cond t ready (in_hand (returned k r.line)))) g) ∙ reply_small
 
       pub late_filled : k ≡ x.out → answer (rep ∷ []) s' q ended ≡ late_reply_call k n s q
-      late_filled h =
-          let g : eqb r.line.out k ≡ true = eq-eqb r.line.out k (sym (h ∙ ap (λ z. z.out) ex)) in
+      late_filled e =
+          let g : eqb r.line.out k ≡ true = eq-eqb r.line.out k (sym (e ∙ ap (λ z. z.out) ex)) in
           ap (λ z. answer (z ∷ []) s' q ended) (er ∙ ap (back_report k) ex) ∙ ap (λ z. answer (back_report k r.line ∷ []) z q ended) es
-          ∙ sym (ap (λ t. answer (back_report k r.line ∷ cond t [] (off_hand Expired (returned k r.line) ∷ [])) (unrouted r s) q ended) g) ∙ late_small (omega arith)
+          ∙ sym (ap (λ t. answer (back_report k r.line ∷ cond t [] (off_hand Expired (returned k r.line) ∷ [])) (unrouted r s) q ended) g) ∙ late_small
 
-      pub reply_returned : (o : Order) → k ≤ x.out → (k ≡ x.out → ⊥) → o ≡ returned k x → answer (rep ∷ []) s' q (in_hand o) ≡ reply_call k n s q
-      reply_returned o l h eo =
-          let g : eqb r.line.out k ≡ false = ne_eqb r.line.out k (λ e. h (sym (ap (λ z. z.out) ex ∙ e))) in
+      pub reply_returned : (o : Order) → (k ≡ x.out → ⊥) → o ≡ returned k x → answer (rep ∷ []) s' q (in_hand o) ≡ reply_call k n s q
+      reply_returned o ne eo =
+          let g : eqb r.line.out k ≡ false = ne_eqb r.line.out k (λ e. ne (sym (ap (λ z. z.out) ex ∙ e))) in
           ap (λ z. answer (z ∷ []) s' q (in_hand o)) (er ∙ ap (back_report k) ex) ∙ ap (λ z. answer (back_report k r.line ∷ []) z q (in_hand o)) es ∙ ap (λ z. answer (back_report k r.line ∷ []) (unrouted r s) q (in_hand z)) (eo ∙ ap (returned k) ex)
-          ∙ sym (ap (λ t. answer (back_report k r.line ∷ []) (unrouted r s) q (cond t ready (in_hand (returned k r.line)))) g) ∙ reply_small l
+          ∙ sym (ap (λ t. answer (back_report k r.line ∷ []) (unrouted r s) q (cond t ready (in_hand (returned k r.line)))) g) ∙ reply_small
 
-      pub late_returned : (o : Order) → k ≤ x.out → (k ≡ x.out → ⊥) → o ≡ returned k x → answer (rep ∷ off_list (Some o)) s' q ended ≡ late_reply_call k n s q
-      late_returned o l h eo =
-          let g : eqb r.line.out k ≡ false = ne_eqb r.line.out k (λ e. h (sym (ap (λ z. z.out) ex ∙ e))) in
+      pub late_returned : (o : Order) → (k ≡ x.out → ⊥) → o ≡ returned k x → answer (rep ∷ off_list (Some o)) s' q ended ≡ late_reply_call k n s q
+      late_returned o ne eo =
+          let g : eqb r.line.out k ≡ false = ne_eqb r.line.out k (λ e. ne (sym (ap (λ z. z.out) ex ∙ e))) in
           ap (λ z. answer (z ∷ off_list (Some o)) s' q ended) (er ∙ ap (back_report k) ex) ∙ ap (λ z. answer (back_report k r.line ∷ off_hand Expired z ∷ []) s' q ended) (eo ∙ ap (returned k) ex) ∙ ap (λ z. answer (back_report k r.line ∷ off_hand Expired (returned k r.line) ∷ []) z q ended) es
-          ∙ sym (ap (λ t. answer (back_report k r.line ∷ cond t [] (off_hand Expired (returned k r.line) ∷ [])) (unrouted r s) q ended) g) ∙ late_small l
+          ∙ sym (ap (λ t. answer (back_report k r.line ∷ cond t [] (off_hand Expired (returned k r.line) ∷ [])) (unrouted r s) q ended) g) ∙ late_small
 
 -- the first order of a side expires
 

@@ -1,9 +1,9 @@
 -- What follows where a check refuses, and where none does.
-use Rattle.std.proofs.Common.{◌≡◌, Some, None, Ok, Err, Option, refl, ap, arith}
+use Rattle.std.proofs.Common.{◌≡◌, Bool, true, false, Some, None, Ok, Err, Option, refl, ap, ◌∙◌, arith}
 use Rattle.std.proofs.lemmas.Bool.Decides.{nat_tests}
 use Rattle.market.specs.declared.types.Refusal.{Refusal}
 use Rattle.market.specs.States.{State, Quotes}
-use Rattle.market.specs.Calls.{Pass, Outcome, refuse, verdict, checked, or_else, numbers_refusal}
+use Rattle.market.specs.Calls.{Pass, Outcome, refuse, unless, verdict, checked, or_else, numbers_refusal}
 
 -- a call that is a check and then an outcome
 module _ (s : State) (q : Quotes) (p : Pass) where
@@ -18,6 +18,18 @@ module _ (s : State) (q : Quotes) (p : Pass) where
 pub no_refusal : (e : Option Refusal) → Ok tt ≡ verdict e → None ≡ e
 no_refusal None h = refl
 no_refusal (Some x) h = grind arith
+
+-- a check that holds, and one that fails
+pub held : (b : Bool) (why : Refusal) → Ok tt ≡ verdict (unless b why) → b ≡ true
+held true why h = refl
+held false why h = grind arith
+
+pub holds_as : (b b' : Bool) (why : Refusal) → Ok tt ≡ verdict (unless b why) → b ≡ b' → Ok tt ≡ verdict (unless b' why)
+holds_as b b' why h e = h ∙ ap (λ t. verdict (unless t why)) e
+
+pub failed : (b : Bool) (why w : Refusal) → Err w ≡ verdict (unless b why) → (b ≡ false) × (w ≡ why)
+failed true why w h = grind arith
+failed false why w h = let same : w ≡ why = cc in (refl, same)
 
 -- one check after another
 pub first_fails : (e f : Option Refusal) (why : Refusal) → Err why ≡ verdict e → Err why ≡ verdict (or_else e f)

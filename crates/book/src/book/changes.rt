@@ -6,9 +6,9 @@ ghost use Rattle.market.specs.Calls.{ready};
 ghost use Rattle.book.specs.Outcomes.{own_call, reported_as};
 
 use super::Book;
-use crate::checks::{check_size, check_user};
 use crate::passes::Ready;
 use crate::reports::off_report_of;
+use market::legal::{is_legal_size, is_legal_user};
 use market::types::{Reason, Refusal, Report};
 
 impl Book {
@@ -17,7 +17,7 @@ impl Book {
         ensures { (q : Quotes) → reported_as ready pass.now.book result self.new q ≡ own_call self.old pass.now.book q (Cancel user number) ready }
     {
         self.owns(pass.book)?;
-        check_user(user)?;
+        Refusal::User.unless(is_legal_user(user))?;
         let at = self.orders.find(user, number).ok_or(Refusal::NotResting)?;
         Ok(self.take_off(Reason::Cancelled, at))
     }
@@ -33,13 +33,11 @@ impl Book {
         ensures { (q : Quotes) → reported_as ready pass.now.book result self.new q ≡ own_call self.old pass.now.book q (Cut size user number) ready }
     {
         self.owns(pass.book)?;
-        check_user(user)?;
-        check_size(size)?;
+        Refusal::User.unless(is_legal_user(user))?;
+        Refusal::Size.unless(is_legal_size(size))?;
         let at = self.orders.find(user, number).ok_or(Refusal::NotResting)?;
         let line = self.orders.line_at(at.side, at.place);
-        if size >= line.shown + line.held {
-            return Err(Refusal::CutTooLarge);
-        }
+        Refusal::CutTooLarge.unless(size < line.shown + line.held)?;
         self.orders.trim(at.side, at.place, size);
         Ok(off_report_of(Reason::Cut, size, at.side, line))
     }

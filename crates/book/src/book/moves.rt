@@ -18,22 +18,14 @@ impl Book {
     pub(super) fn owns(&self, pass: u32) -> Result<(), Refusal>
         ensures { result ≡ verdict (unless (pass == self.now.id) WrongPass) }
     {
-        if pass == self.id {
-            Ok(())
-        } else {
-            Err(Refusal::WrongPass)
-        }
+        Refusal::WrongPass.unless(pass == self.id)
     }
 
     // Whether a number is left for an order.
     pub(super) fn check_numbers(&self) -> Result<(), Refusal>
         ensures { result ≡ verdict (numbers_refusal (book_state self.now)) }
     {
-        if self.orders.next_number() == 0 {
-            Err(Refusal::NumbersUsedUp)
-        } else {
-            Ok(())
-        }
+        Refusal::NumbersUsedUp.unless(self.orders.next_number() != 0)
     }
 
     // Takes the resting order at a place off, with all its shares.

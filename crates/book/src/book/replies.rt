@@ -28,9 +28,7 @@ impl Book {
         self.owns(pass)?;
         let place = self.orders.find_route(number).ok_or(Refusal::NotOut)?;
         let route = self.orders.route_at(place);
-        if filled > route.out {
-            return Err(Refusal::ReplyTooLarge);
-        }
+        Refusal::ReplyTooLarge.unless(filled <= route.out)?;
         self.orders.end_route(place);
         let report = back_report_of(filled, route);
         if filled == route.out {
