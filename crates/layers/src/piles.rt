@@ -1,7 +1,6 @@
 // Piles of layers are boards again: what is asked of any board can be asked of them.
 ghost use Rattle.std.specs.Prelude.{◌≡◌};
 ghost use Rattle.ranking.specs.Place.{those};
-ghost use Rattle.ranking.specs.Lists.{lines_of};
 ghost use Rattle.market.specs.declared.types.Side.TheVariants.{Buy};
 ghost use Rattle.market.specs.States.{quotes_of, quoted};
 ghost use Rattle.market.specs.Steps.{any_better};
@@ -17,7 +16,7 @@ use table_board::table::TableBoard;
 
 // Whether a bid is better than this price, three layers above a table.
 pub fn bid_better(pile: &SelfHelp<Band<SelfHelp<TableBoard>>>, price: u32) -> bool
-    ensures { result ≡ any_better Buy price (those (unmarked pile.now.screen) (those (in_band pile.now.below.screen.low pile.now.below.screen.high) (those (unmarked pile.now.below.below.screen) (lines_of pile.now.below.below.below.bids)))) }
+    ensures { result ≡ any_better Buy price (those (unmarked pile.now.screen) (those (in_band pile.now.below.screen.low pile.now.below.screen.high) (those (unmarked pile.now.below.below.screen) (lists_of pile.now.below.below.below).bids))) }
 {
     first_better(pile, Side::Buy, price)
 }

@@ -13,7 +13,7 @@ use Rattle.table_board.specs.declared.table.TableBoard.{TableBoard}
 
 -- the two lists of a table board
 abbrev pub lists_of : TableBoard → Quotes
-lists_of b = quotes_of (lines_of b.bids) (lines_of b.offers)
+lists_of b = quotes_of (lines_of b.lists.buy) (lines_of b.lists.sell)
 
 -- quote: 3 for a size above 999,999, 4 for an illegal price unless the size is 0, 11 for a venue not from 1 to 64
 abbrev pub quotation_refusal : Quotation → Option Refusal

@@ -1,19 +1,30 @@
 // What is done with the list of one side of a table board.
 ghost use Rattle.std.specs.Prelude.{◌≡◌, ◌<◌, length};
-ghost use Rattle.ranking.specs.Lists.{lines_of, most_of};
+ghost use Rattle.ranking.specs.Lists.{lines_of};
+ghost use Rattle.ranking.specs.Place.{Found};
+ghost use Rattle.market.specs.States.{venue_is};
 ghost use Rattle.market.specs.Quotes.{without, requoted};
 ghost use Rattle.table_board.specs.Quoting.{TakenFrom};
 
-use market::ranks::Venue;
 use market::types::{Quotation, Refusal, Side};
 use ranking::list::RankedList;
 
-// Takes shares from a venue's line, which is lessened where it stands and goes once it has none left.
-pub fn take_from(lines: &mut RankedList<Quotation>, venue: u32, shares: u32) -> Result<(), Refusal>
-    ensures taken { TakenFrom venue shares (lines_of lines.old) (lines_of lines.new) result }
-    ensures most { most_of lines.new ≡ most_of lines.old }
+// The place of a venue's line, if it has one.
+fn find_line(lines: &RankedList<Quotation, 64>, venue: u32) -> Option<usize>
+    ensures { Found (venue_is venue) (lines_of lines.now) result }
 {
-    let Some(place) = lines.find(&Venue(venue)) else {
+    lines.find(|q| q.venue == venue)
+}
+
+// Takes shares from a venue's line, which is lessened where it stands and goes once it has none left.
+pub fn take_from(
+    lines: &mut RankedList<Quotation, 64>,
+    venue: u32,
+    shares: u32,
+) -> Result<(), Refusal>
+    ensures { TakenFrom venue shares (lines_of lines.old) (lines_of lines.new) result }
+{
+    let Some(place) = find_line(lines, venue) else {
         return Err(Refusal::NoSuchLine);
     };
     let line = lines.line_mut(place);
@@ -29,20 +40,18 @@ pub fn take_from(lines: &mut RankedList<Quotation>, venue: u32, shares: u32) -> 
 }
 
 // Drops a venue's line, if it has one.
-fn drop_line(lines: &mut RankedList<Quotation>, venue: u32)
-    ensures lines { lines_of lines.new ≡ without venue (lines_of lines.old) }
-    ensures most { most_of lines.new ≡ most_of lines.old }
+fn drop_line(lines: &mut RankedList<Quotation, 64>, venue: u32)
+    ensures { lines_of lines.new ≡ without venue (lines_of lines.old) }
 {
-    if let Some(place) = lines.find(&Venue(venue)) {
+    if let Some(place) = find_line(lines, venue) {
         lines.remove(place);
     }
 }
 
 // Puts a venue's line in place of the one that it had; a size of 0 is no line.
-pub fn requote(lines: &mut RankedList<Quotation>, side: Side, q: Quotation)
-    requires { length (without q.venue (lines_of lines.old)) < most_of lines.old }
-    ensures lines { lines_of lines.new ≡ requoted side q (lines_of lines.old) }
-    ensures most { most_of lines.new ≡ most_of lines.old }
+pub fn requote(lines: &mut RankedList<Quotation, 64>, side: Side, q: Quotation)
+    requires { length (without q.venue (lines_of lines.old)) < 64 }
+    ensures { lines_of lines.new ≡ requoted side q (lines_of lines.old) }
 {
     drop_line(lines, q.venue);
     if q.size != 0 {

@@ -1,7 +1,9 @@
 // The table board: its two lists, and what holds of them.
-ghost use Rattle.market.specs.declared.types.Side.TheVariants.{Buy, Sell};
-ghost use Rattle.table_board.specs.Kept.{Kept};
+ghost use Rattle.ranking.specs.Lists.{lines_of};
+ghost use Rattle.market.specs.States.{quotes_of};
+ghost use Rattle.market.specs.Quotes.{Shown};
 
+use market::sides::Sides;
 use market::types::Quotation;
 use ranking::list::RankedList;
 
@@ -10,7 +12,6 @@ pub mod methods;
 // Room for a line of each of the 64 venues is reserved when the board is made.
 #[derive(Drop)]
 pub struct TableBoard {
-    bids: RankedList<Quotation>,
-    offers: RankedList<Quotation>,
-    ghost kept: { Kept Buy bids × Kept Sell offers },
+    lists: Sides<RankedList<Quotation, 64>>,
+    ghost shown: { Shown (quotes_of (lines_of lists.buy) (lines_of lists.sell)) },
 }

@@ -1,6 +1,6 @@
 use Rattle.std.proofs.Common.{◌≡◌, sym, refl, ap, ◌∙◌, arith}
 use Rattle.std.specs.List.{remove}
-use Rattle.ranking.specs.Lists.{lines_of, most_of}
+use Rattle.ranking.specs.Lists.{lines_of}
 use Rattle.table_board.proofs.Finding.{no_size, as_it_was, its_size, all_taken, some_taken}
 use Rattle.table_board.proofs.lists.take_from.Goals as goal
 use Rattle.table_board.proofs.lists.take_from.Goals.{then-shares-eq0-via-then-shares-eq0, then-shares-eq0-via-else-shares-eq0+then-line-shares}
@@ -8,7 +8,7 @@ use Rattle.table_board.proofs.lists.take_from.Goals.{then-shares-eq0-via-then-sh
 pub returns-in_default : goal.returns-in_default
 returns-in_default c =
     let none = no_size c.args.venue (lines_of c.args.lines.now) c.in_default.ensures in
-    record { taken = (λ some enough. omega (arith, none), refl, refl); most = refl }
+    (λ some enough. omega (arith, none), refl, refl)
 
 pub returns-then-shares-eq0 : goal.returns-then-shares-eq0
 returns-then-shares-eq0 c =
@@ -18,8 +18,8 @@ returns-then-shares-eq0 c =
     let same = as_it_was c.args.venue xs c.in-Some.place found.0 found.1 x c.line_mut-line.ensures.value in
     let size = its_size c.args.venue xs c.in-Some.place found.0 found.1 x c.line_mut-line.ensures.value in
     elim c.then-shares-eq0.branch [
-      | then-shares-eq0-via-then-shares-eq0 w ↦ record { taken = (λ some enough. omega (arith, w.if-shares-eq0.true), refl, ap lines_of w.lines-is ∙ same); most = ap most_of w.lines-is }
-      | then-shares-eq0-via-else-shares-eq0+then-line-shares w ↦ record { taken = (λ some enough. omega (arith, size, w.if-line-shares.true), refl, ap lines_of w.lines-is ∙ same); most = ap most_of w.lines-is }
+      | then-shares-eq0-via-then-shares-eq0 w ↦ (λ some enough. omega (arith, w.if-shares-eq0.true), refl, ap lines_of w.lines-is ∙ same)
+      | then-shares-eq0-via-else-shares-eq0+then-line-shares w ↦ (λ some enough. omega (arith, size, w.if-line-shares.true), refl, ap lines_of w.lines-is ∙ same)
     ]
 
 pub returns-then-shares-line : goal.returns-then-shares-line
@@ -28,10 +28,7 @@ returns-then-shares-line c =
     let found = c.in-Some.ensures in
     let x = c.line_mut-line.result.now in
     let size = its_size c.args.venue xs c.in-Some.place found.0 found.1 x c.line_mut-line.ensures.value in
-    record {
-      taken = (omega (arith, c.if-shares-eq0.false), omega (arith, size), sym (some_taken c.args.venue xs c.in-Some.place found.0 found.1 x c.line_mut-line.ensures.value c.args.shares (λ e. omega (arith, c.if-shares-line.true))));
-      most = refl;
-    }
+    (omega (arith, c.if-shares-eq0.false), omega (arith, size), sym (some_taken c.args.venue xs c.in-Some.place found.0 found.1 x c.line_mut-line.ensures.value c.args.shares (λ e. omega (arith, c.if-shares-line.true))))
 
 pub returns-else-shares-line : goal.returns-else-shares-line
 returns-else-shares-line c =
@@ -42,7 +39,4 @@ returns-else-shares-line c =
     let same = as_it_was c.args.venue xs i found.0 found.1 x c.line_mut-line.ensures.value in
     let size = its_size c.args.venue xs i found.0 found.1 x c.line_mut-line.ensures.value in
     let all : x.size ≡ c.args.shares = omega (arith, c.if-shares-line.false, c.if-line-shares.false) in
-    record {
-      taken = (omega (arith, c.if-shares-eq0.false), omega (arith, size), c.remove.ensures.lines ∙ ap (λ l. remove l i) same ∙ sym (all_taken c.args.venue xs i found.0 found.1 x c.line_mut-line.ensures.value c.args.shares all));
-      most = c.remove.ensures.most;
-    }
+    (omega (arith, c.if-shares-eq0.false), omega (arith, size), c.remove.ensures.lines ∙ ap (λ l. remove l i) same ∙ sym (all_taken c.args.venue xs i found.0 found.1 x c.line_mut-line.ensures.value c.args.shares all))

@@ -1,13 +1,14 @@
-use Rattle.market.specs.declared.types.Side.TheVariants.{Buy, Sell}
-use Rattle.table_board.proofs.Keeping.{kept_taken}
+use Rattle.std.proofs.Common.{◌≡◌, ap, ◌∙◌, refl, subst}
+use Rattle.ranking.specs.Lists.{lines_of}
+use Rattle.market.specs.States.{quoted}
+use Rattle.table_board.specs.Quoting.{lists_of, TakenFrom}
+use Rattle.table_board.proofs.Keeping.{list_of, shown_with, showable_taken}
 use Rattle.table_board.proofs.table.methods.TableBoardBoard.take.Goals as goal
 
 pub invariant_of-self : goal.invariant_of-self
 invariant_of-self c =
-    let kept = c.args.self.now.kept in
-    record { kept = (kept_taken Buy c.args.self.now.bids c.take_from.new.lines c.args.venue c.args.shares c.take_from.result kept.0 c.take_from.ensures.most c.take_from.ensures.taken, kept.1) }
-
-pub invariant_of-self-in-Sell : goal.invariant_of-self-in-Sell
-invariant_of-self-in-Sell c =
-    let kept = c.args.self.now.kept in
-    record { kept = (kept.0, kept_taken Sell c.args.self.now.offers c.take_from-in-Sell.new.lines c.args.venue c.args.shares c.take_from-in-Sell.result kept.1 c.take_from-in-Sell.ensures.most c.take_from-in-Sell.ensures.taken) }
+    let d = c.args.side in
+    let b = c.args.self.now in
+    let there : lines_of c.on_mut.result.now ≡ quoted d (lists_of b) = ap lines_of c.on_mut.ensures.value ∙ list_of d b in
+    let taken = subst (λ xs. TakenFrom c.args.venue c.args.shares xs (lines_of c.take_from.new.lines) c.take_from.result) there c.take_from.ensures in
+    record { shown = shown_with d b c.take_from.new.lines _ refl (showable_taken d b _ c.args.venue c.args.shares c.take_from.result taken) }
