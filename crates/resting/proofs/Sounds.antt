@@ -25,9 +25,9 @@ pub sound_of : (o : OpenOrders) → Sound (state_of o)
 sound_of o = o.sound
 
 -- the list of a side, and the state with another list in its place
-pub on_side : (d : Side) (o : OpenOrders) → lines_of (pick d o.sides.buy o.sides.sell) ≡ on d (state_of o)
-on_side Buy o = refl
-on_side Sell o = refl
+pub on_side : (d : Side) (o : OpenOrders) (l : RankedList Resting 256) → l ≡ pick d o.sides.buy o.sides.sell → lines_of l ≡ on d (state_of o)
+on_side Buy o l e = ap lines_of e
+on_side Sell o l e = ap lines_of e
 
 pub put_side : (d : Side) (o : OpenOrders) (l : RankedList Resting 256) → state (lines_of (pick d l o.sides.buy)) (lines_of (pick d o.sides.sell l)) (lines_of o.routes) o.next ≡ put d (lines_of l) (state_of o)
 put_side Buy o l = refl

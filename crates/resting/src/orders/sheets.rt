@@ -24,26 +24,22 @@ impl OpenOrders {
         self.route_line(place).map(on_route_list)
     }
 
+    // Whether a side of the rank sheet is the same.
     fn has_the_side_of(&self, other: &OpenOrders, side: Side) -> bool
         ensures { Decides result (on side (sheet (state_of self.now)) ≡ on side (sheet (state_of other.now))) }
     {
-        let ours = self.sides.on(side).as_slice().iter().copied().map(on_sheet);
-        let theirs = other
-            .sides
-            .on(side)
-            .as_slice()
-            .iter()
-            .copied()
-            .map(on_sheet);
-        ours.eq(theirs)
+        let ours = self.sides.on(side).as_slice().iter().copied();
+        let theirs = other.sides.on(side).as_slice().iter().copied();
+        ours.map(on_sheet).eq(theirs.map(on_sheet))
     }
 
+    // Whether the route list is the same.
     fn has_the_routes_of(&self, other: &OpenOrders) -> bool
         ensures { Decides result ((sheet (state_of self.now)).routes ≡ (sheet (state_of other.now)).routes) }
     {
-        let ours = self.routes.as_slice().iter().copied().map(on_route_list);
-        let theirs = other.routes.as_slice().iter().copied().map(on_route_list);
-        ours.eq(theirs)
+        let ours = self.routes.as_slice().iter().copied();
+        let theirs = other.routes.as_slice().iter().copied();
+        ours.map(on_route_list).eq(theirs.map(on_route_list))
     }
 
     // Whether the rank sheets, the route lists and the next numbers are the same.

@@ -13,7 +13,7 @@ same_route x y = search rules
 
 pub returns : goal.returns
 returns c =
-    same_from_eq c.map-theirs.result c.eq.result c.eq.ensures.ran
-    (YieldsList-from_map _ route_line (YieldsList-from_copied (YieldsList-from_slice (lines_of c.args.self.now.routes) cc)) c.map-ours.ensures.closure (λ x r q k. search rules))
-    (YieldsList-from_map _ route_line (YieldsList-from_copied (YieldsList-from_slice (lines_of c.args.other.now.routes) cc)) c.map-theirs.ensures.closure (λ x r q k. search rules))
+    same_from_eq c.map-2.result c.eq.result c.eq.ensures.ran
+    (YieldsList-from_map _ route_line (YieldsList-from_copied (YieldsList-from_slice (lines_of c.args.self.now.routes) cc)) c.map.ensures.closure (λ x r q k. search rules))
+    (YieldsList-from_map _ route_line (YieldsList-from_copied (YieldsList-from_slice (lines_of c.args.other.now.routes) cc)) c.map-2.ensures.closure (λ x r q k. search rules))
     same_route

@@ -1,7 +1,5 @@
-use Rattle.std.proofs.Common.{◌≡◌, get_or, ap, ◌∙◌}
-use Rattle.ranking.specs.Lists.{lines_of}
+use Rattle.std.proofs.Common.{get_or, ap, ◌∙◌}
 use Rattle.std.specs.List.{remove}
-use Rattle.market.specs.States.{on}
 use Rattle.resting.specs.Orders.{state_of}
 use Rattle.resting.proofs.Sounds.{on_side, sound_put, sound_removed, few_on, no_order}
 use Rattle.resting.proofs.orders.OpenOrders.take_out.Goals as goal
@@ -11,7 +9,7 @@ invariant_of-self c =
     let d = c.args.side in
     let o = c.args.self.now in
     let i = c.args.place in
-    let there : lines_of c.on_mut.result.now ≡ on d (state_of o) = ap lines_of c.on_mut.ensures.value ∙ on_side d o in
+    let there = on_side d o c.on_mut.result.now c.on_mut.ensures.value in
     let lines = c.remove.ensures.lines ∙ ap (λ xs. remove xs i) there in
     record { sound = sound_put d o c.remove.new.self _ lines (sound_removed d i no_order (state_of o) c.requires o.sound) }
 
@@ -19,5 +17,5 @@ pub returns-clause-few : goal.returns-clause-few
 returns-clause-few c =
     let d = c.args.side in
     let o = c.args.self.now in
-    let there : lines_of c.on_mut.result.now ≡ on d (state_of o) = ap lines_of c.on_mut.ensures.value ∙ on_side d o in
+    let there = on_side d o c.on_mut.result.now c.on_mut.ensures.value in
     few_on d o c.args.place c.remove.result c.requires (c.remove.ensures.value _ ∙ ap (λ xs. get_or xs c.args.place c.remove.result) there)

@@ -1,6 +1,4 @@
-use Rattle.std.proofs.Common.{◌≡◌, ap, ◌∙◌}
-use Rattle.ranking.specs.Lists.{lines_of}
-use Rattle.market.specs.States.{on}
+use Rattle.std.proofs.Common.{ap, ◌∙◌}
 use Rattle.market.specs.Orders.{traded}
 use Rattle.soundness.proofs.Keeps.{sound_traded}
 use Rattle.resting.specs.Orders.{state_of}
@@ -11,6 +9,6 @@ pub invariant_of-self : goal.invariant_of-self
 invariant_of-self c =
     let d = c.args.side in
     let o = c.args.self.now in
-    let there : lines_of c.on_mut.result.now ≡ on d (state_of o) = ap lines_of c.on_mut.ensures.value ∙ on_side d o in
+    let there = on_side d o c.on_mut.result.now c.on_mut.ensures.value in
     let lines = c.trade_first.ensures ∙ ap (traded d c.args.k) there in
     record { sound = sound_put d o c.trade_first.new.list _ lines (sound_traded d c.args.k (state_of o) o.sound) }

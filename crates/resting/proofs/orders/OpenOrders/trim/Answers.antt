@@ -1,5 +1,4 @@
-use Rattle.std.proofs.Common.{◌≡◌, ap, ◌∙◌}
-use Rattle.ranking.specs.Lists.{lines_of}
+use Rattle.std.proofs.Common.{ap, ◌∙◌}
 use Rattle.market.specs.States.{on, put}
 use Rattle.resting.specs.Sides.{trim_at}
 use Rattle.resting.specs.Orders.{state_of}
@@ -12,7 +11,7 @@ invariant_of-self c =
     let d = c.args.side in
     let o = c.args.self.now in
     let i = c.args.place in
-    let there : lines_of c.on_mut.result.now ≡ on d (state_of o) = ap lines_of c.on_mut.ensures.value ∙ on_side d o in
+    let there = on_side d o c.on_mut.result.now c.on_mut.ensures.value in
     let lines = c.trim_line.ensures ∙ ap (trim_at i c.args.k) there in
     record { sound = sound_put d o c.trim_line.new.list _ lines (sound_trim d i c.args.k no_order (state_of o) c.requires.place c.requires.few o.sound) }
 
@@ -21,6 +20,6 @@ returns c x =
     let d = c.args.side in
     let o = c.args.self.now in
     let i = c.args.place in
-    let there : lines_of c.on_mut.result.now ≡ on d (state_of o) = ap lines_of c.on_mut.ensures.value ∙ on_side d o in
+    let there = on_side d o c.on_mut.result.now c.on_mut.ensures.value in
     let lines = c.trim_line.ensures ∙ ap (trim_at i c.args.k) there ∙ trim_is (on d (state_of o)) i c.args.k x c.requires.place in
     put_side d o c.trim_line.new.list ∙ ap (λ xs. put d xs (state_of o)) lines
