@@ -1,6 +1,6 @@
 -- Dropping a venue's line keeps what holds of the lines, and leaves none of that venue.
-use Rattle.std.proofs.Common.{◌≡◌, ℕ, ◌+◌, ◌≤◌, Bool, true, not, List, [], ◌∷◌, length, refl, subst, arith}
-use Rattle.std.proofs.lemmas.Bool.{and_parts, and_from, cond_both, not_from_false, eqb-true}
+use Rattle.std.proofs.Common.{◌≡◌, ℕ, ◌+◌, ◌≤◌, Bool, true, not, List, [], ◌∷◌, length, refl, arith}
+use Rattle.std.proofs.lemmas.Bool.Decides.{nat_tests}
 use Rattle.ranking.specs.Place.{every, in_rank}
 use Rattle.market.specs.declared.types.Side.{Side}
 use Rattle.market.specs.declared.types.Quotation.{Quotation}
@@ -16,21 +16,17 @@ lacking v xs = every (λ x. not (venue_is v x)) xs
 module _ (v : ℕ) where
   pub length_without : (xs : List Quotation) → length xs ≤ length (without v xs) + 1
   length_without [] = omega arith
-  length_without (x ∷ xs) =
-      let h = length_without xs in
-      cond_both (venue_is v x) xs (x ∷ without v xs) (λ l. length (x ∷ xs) ≤ length l + 1) (λ _. omega arith) (λ _. omega arith)
+  length_without (x ∷ xs) = let rest = length_without xs in grind arith
 
   pub every_without : (t : Quotation → Bool) (xs : List Quotation) → every t xs ≡ true → every t (without v xs) ≡ true
   every_without t [] h = refl
-  every_without t (x ∷ xs) h =
-      let both = and_parts (t x) (every t xs) h in
-      cond_both (venue_is v x) xs (x ∷ without v xs) (λ l. every t l ≡ true) (λ _. both.1) (λ _. and_from (t x) (every t (without v xs)) both.0 (every_without t xs both.1))
+  every_without t (x ∷ xs) h = let rest = every_without t xs in grind arith
 
   pairwise_without : (r : Quotation → Quotation → Bool) (xs : List Quotation) → pairwise r xs ≡ true → pairwise r (without v xs) ≡ true
   pairwise_without r [] h = refl
   pairwise_without r (x ∷ xs) h =
-      let both = and_parts (every (r x) xs) (pairwise r xs) h in
-      cond_both (venue_is v x) xs (x ∷ without v xs) (λ l. pairwise r l ≡ true) (λ _. both.1) (λ _. and_from (every (r x) (without v xs)) (pairwise r (without v xs)) (every_without (r x) xs both.0) (pairwise_without r xs both.1))
+      let here = every_without (r x) xs in
+      let rest = pairwise_without r xs in grind arith
 
   pub in_rank_without : (b : Quotation → Quotation → Bool) (xs : List Quotation) → in_rank b xs ≡ true → in_rank b (without v xs) ≡ true
   in_rank_without b = in_rank_by b (without v) (pairwise_without (in_turn b))
@@ -40,11 +36,7 @@ module _ (v : ℕ) where
 
   pub lacking_without : (xs : List Quotation) → one_a_venue xs ≡ true → lacking v (without v xs) ≡ true
   lacking_without [] h = refl
-  lacking_without (x ∷ xs) h =
-      let both = and_parts (lacking x.venue xs) (one_a_venue xs) h in
-      cond_both (venue_is v x) xs (x ∷ without v xs) (λ l. lacking v l ≡ true)
-      (λ e. let P : ℕ → Type 0 = λ u. lacking u xs ≡ true in subst P (eqb-true x.venue v e) both.0)
-      (λ e. and_from (not (venue_is v x)) (lacking v (without v xs)) (not_from_false (venue_is v x) e) (lacking_without xs both.1))
+  lacking_without (x ∷ xs) h = let rest = lacking_without xs in grind (arith, nat_tests)
 
   pub showable_without : (d : Side) (xs : List Quotation) → Showable d xs → Showable d (without v xs)
   showable_without d xs h = record { ranked = in_rank_without (quotation_before d) xs h.ranked; legal = every_without quotation_legal xs h.legal; venues = venues_without xs h.venues }

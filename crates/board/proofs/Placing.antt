@@ -1,6 +1,5 @@
 -- Placing a line of a venue that has none keeps what holds of the lines.
 use Rattle.std.proofs.Common.{◌≡◌, Bool, true, false, List, [], ◌∷◌, refl, arith}
-use Rattle.std.proofs.lemmas.Bool.{and_parts, and_from, cond_both}
 use Rattle.std.proofs.lemmas.Bool.Decides.{nat_tests}
 use Rattle.ranking.specs.Place.{every, place}
 use Rattle.ranking.proofs.Ranking.{place_in_rank}
@@ -28,23 +27,16 @@ one_before Sell x y h k = grind (arith, nat_tests)
 pub apart_back : (x y : Quotation) → apart x y ≡ true → apart y x ≡ true
 apart_back x y h = grind (arith, nat_tests)
 
-module _ {X : Type 0} (b : X → X → Bool) (x : X) where
-  pub every_place : (t : X → Bool) (ys : List X) → t x ≡ true → every t ys ≡ true → every t (place b x ys) ≡ true
-  every_place t [] here h = and_from (t x) true here refl
-  every_place t (y ∷ ys) here h =
-      let both = and_parts (t y) (every t ys) h in
-      cond_both (b x y) (x ∷ y ∷ ys) (y ∷ place b x ys) (λ l. every t l ≡ true)
-      (λ _. and_from (t x) (every t (y ∷ ys)) here h)
-      (λ _. and_from (t y) (every t (place b x ys)) both.0 (every_place t ys here both.1))
+pub every_place : {X : Type 0} (b : X → X → Bool) (x : X) (t : X → Bool) (ys : List X) → t x ≡ true → every t ys ≡ true → every t (place b x ys) ≡ true
+every_place b x t [] here h = grind arith
+every_place b x t (y ∷ ys) here h = let rest = every_place b x t ys here in grind arith
 
 pub venues_place : (b : Quotation → Quotation → Bool) (q : Quotation) (ys : List Quotation) → lacking q.venue ys ≡ true → one_a_venue ys ≡ true → one_a_venue (place b q ys) ≡ true
 venues_place b q [] none h = refl
 venues_place b q (y ∷ ys) none h =
-    let absent = and_parts (apart q y) (lacking q.venue ys) none in
-    let both = and_parts (lacking y.venue ys) (one_a_venue ys) h in
-    cond_both (b q y) (q ∷ y ∷ ys) (y ∷ place b q ys) (λ l. one_a_venue l ≡ true)
-    (λ _. and_from (lacking q.venue (y ∷ ys)) (one_a_venue (y ∷ ys)) none h)
-    (λ _. and_from (lacking y.venue (place b q ys)) (one_a_venue (place b q ys)) (every_place b q (apart y) ys (apart_back q y absent.0) both.0) (venues_place b q ys absent.1 both.1))
+    let back = apart_back q y in
+    let others = every_place b q (apart y) ys in
+    let rest = venues_place b q ys in grind arith
 
 pub showable_place : (d : Side) (q : Quotation) (ys : List Quotation) → quotation_legal q ≡ true → lacking q.venue ys ≡ true → Showable d ys → Showable d (place (quotation_before d) q ys)
 showable_place d q ys legal none h = record {
