@@ -9,6 +9,7 @@ use Rattle.market.specs.Legal.{legal_venue}
 use Rattle.market.specs.States.{Quotes, quoted}
 use Rattle.market.specs.Quotes.{Taken}
 use Rattle.board.specs.Lines.{of_venue}
+use Rattle.layers.specs.declared.band.Prices.{Prices}
 
 -- the mark of venue v is bit v - 1 of the word
 abbrev pub marked : ℕ → ℕ → Bool
@@ -26,8 +27,8 @@ abbrev pub unmarked : ℕ → Quotation → Bool
 unmarked w q = not (marked w q.venue)
 
 -- a band shows the lines with a price from low to high
-abbrev pub in_band : ℕ → ℕ → Quotation → Bool
-in_band low high q = nat_le low q.price && nat_le q.price high
+abbrev pub in_band : Prices → Quotation → Bool
+in_band band q = nat_le band.low q.price && nat_le q.price band.high
 
 -- declare:
 -- 1. the venue is marked, and every other mark is as it was

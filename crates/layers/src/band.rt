@@ -15,12 +15,12 @@ pub struct Prices {
 }
 
 impl Screen for Prices {
-    ghost passes = { λ s. in_band s.low s.high };
+    ghost passes = { in_band };
 
     ghost sizeless = { Prim.search rules };
 
     fn lets_through(&self, q: Quotation) -> bool {
-        self.low <= q.price && q.price <= self.high
+        (self.low..=self.high).contains(&q.price)
     }
 }
 
@@ -29,7 +29,8 @@ pub type Band<B> = Layer<B, Prices>;
 impl<B> Band<B> {
     pub fn over(below: B, low: u32, high: u32) -> Band<B>
         ensures below { result.below ≡ below }
-        ensures prices { (result.screen.low ≡ low) × (result.screen.high ≡ high) }
+        ensures low { result.screen.low ≡ low }
+        ensures high { result.screen.high ≡ high }
     {
         Layer {
             below,

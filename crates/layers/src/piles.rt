@@ -16,14 +16,14 @@ use table_board::table::TableBoard;
 
 // Whether a bid is better than this price, three layers above a table.
 pub fn bid_better(pile: &SelfHelp<Band<SelfHelp<TableBoard>>>, price: u32) -> bool
-    ensures { result ≡ any_better Buy price (those (unmarked pile.now.screen) (those (in_band pile.now.below.screen.low pile.now.below.screen.high) (those (unmarked pile.now.below.below.screen) (lists_of pile.now.below.below.below).bids))) }
+    ensures { result ≡ any_better Buy price (those (unmarked pile.now.screen) (those (in_band pile.now.below.screen) (those (unmarked pile.now.below.below.screen) (lists_of pile.now.below.below.below).bids))) }
 {
     first_better(pile, Side::Buy, price)
 }
 
 // Whether a line is better than this price, two layers above any board.
 pub fn layered_better<B: Board>(pile: &SelfHelp<Band<B>>, side: Side, price: u32) -> bool
-    ensures { result ≡ any_better side price (those (unmarked pile.now.screen) (those (in_band pile.now.below.screen.low pile.now.below.screen.high) (quoted side (quotes_of (B.bids pile.now.below.below) (B.offers pile.now.below.below))))) }
+    ensures { result ≡ any_better side price (those (unmarked pile.now.screen) (those (in_band pile.now.below.screen) (quoted side (quotes_of (B.bids pile.now.below.below) (B.offers pile.now.below.below))))) }
 {
     first_better(pile, side, price)
 }
@@ -35,7 +35,8 @@ pub fn quote_under(
     q: Quotation,
 ) -> Result<(), Refusal>
     ensures table { Quoted side q (lists_of pile.old.below.below) (lists_of pile.new.below.below) result }
-    ensures layers { (pile.new.screen ≡ pile.old.screen) × (pile.new.below.screen ≡ pile.old.below.screen) }
+    ensures marks { pile.new.screen ≡ pile.old.screen }
+    ensures band { pile.new.below.screen ≡ pile.old.below.screen }
 {
     pile.below.below.quote(side, q)
 }
