@@ -1,9 +1,9 @@
 -- Cutting at spaces, and joining again.
-use Rattle.std.proofs.Common.{◌≡◌, ℕ, zero, suc, ◌+◌, ◌<◌, Bool, true, false, cond, eqb, List, [], ◌∷◌, ◌++◌, length, get_or, take, drop, sym, refl, ap, ◌∙◌, arith, ne_eqb, eqb-true}
+use Rattle.std.proofs.Common.{◌≡◌, ℕ, zero, suc, ◌<◌, Bool, true, false, cond, eqb, List, [], ◌∷◌, ◌++◌, length, Some, None, Err, Option, ok_or, refl, ap, ◌∙◌, arith, ne_eqb, eqb-true, Bor}
 use borrow.Author.Tests.{eqb-false}
 use Rattle.market.specs.Written.{spaced, spaced_after}
-use Rattle.order_file.specs.Lines.{Lacks, Plain, onto, cut}
-use Rattle.std.proofs.lemmas.List.{take-append-drop, drop_more, get_or-take, length-take-le}
+use Rattle.order_file.specs.declared.faults.Fault.{Fault}
+use Rattle.order_file.specs.Lines.{Lacks, SplitAt, Plain, onto, cut}
 
 tail_free : (b : ℕ) (bs : List ℕ) → Lacks 32 (b ∷ bs) → Lacks 32 bs
 tail_free b bs h k l e = h (suc k) (omega arith) e
@@ -20,18 +20,18 @@ cut_joined (b ∷ p) bs h =
     let q : eqb b 32 ≡ false = ne_eqb b 32 (h 0 (omega arith)) in
     rw (q, cut_joined p bs (tail_free b p h))
 
--- what the first place of a byte parts a list into
-pub parted : (b : ℕ) (bs : List ℕ) (i : ℕ) → ((k : ℕ) → k < i → get_or bs k 0 ≡ b → ⊥) → i < length bs → get_or bs i 0 ≡ b
-    → (bs ≡ take i bs ++ b ∷ drop (i + 1) bs) × Lacks b (take i bs)
-parted b bs i h l e =
-    let long : length (take i bs) ≡ i = length-take-le i bs (omega arith) in (
-      (sym (take-append-drop i bs) ∙ ap (λ (x : List ℕ). take i bs ++ x) (drop_more bs i 0 l ∙ ap (λ (x : ℕ). x ∷ drop (i + 1) bs) e)),
-      λ k m q. let m' : k < i = omega arith in h k m' (rw get_or-take at q),
-    )
+-- the first field, and the fields of what follows its space
+abbrev pub Heads : List ℕ → Option (Bor (List ℕ) × Bor (List ℕ)) → Type 0
+Heads bs None = cut bs ≡ bs ∷ []
+Heads bs (Some x) = cut bs ≡ x.0.now ∷ cut x.1.now
 
-pub cut_at : (bs : List ℕ) (i : ℕ) → ((k : ℕ) → k < i → get_or bs k 0 ≡ 32 → ⊥) → i < length bs → get_or bs i 0 ≡ 32
-    → cut bs ≡ take i bs ∷ cut (drop (i + 1) bs)
-cut_at bs i h l e = let p = parted 32 bs i h l e in ap cut p.0 ∙ cut_joined (take i bs) (drop (i + 1) bs) p.1
+pub heads : (bs : List ℕ) (r : Option (Bor (List ℕ) × Bor (List ℕ))) → SplitAt 32 bs r → Heads bs r
+heads bs None h = cut_none bs h
+heads bs (Some x) h = ap cut h.0 ∙ cut_joined x.0.now x.1.now h.1
+
+pub fault_of : {X : Type 0} (o : Option X) (f g : Fault) → Err f ≡ ok_or o g → f ≡ g
+fault_of (Some x) f g e = absurd (cc)
+fault_of None f g e = cc
 
 more : (t : Bool) (b : ℕ) (ps : List (List ℕ)) → 0 < length (cond t ([] ∷ ps) (onto b ps))
 more true b ps = omega arith

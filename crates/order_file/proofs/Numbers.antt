@@ -1,5 +1,5 @@
 -- When bytes are what `decimal` writes of a number of 32 bits.
-use Rattle.std.proofs.Common.{◌≡◌, ℕ, zero, suc, ◌+◌, ◌-◌, ◌*◌, ◌^◌, ◌<◌, ◌≤◌, List, ◌++◌, map, length, get_or, take, drop, decimal, sym, ap, ◌∙◌, subst, arith}
+use Rattle.std.proofs.Common.{◌≡◌, ℕ, zero, suc, ◌+◌, ◌*◌, ◌^◌, ◌<◌, ◌≤◌, List, ◌++◌, map, length, get_or, take, drop, decimal, sym, ap, ◌∙◌, subst, arith}
 use Rattle.std.specs.Str.Parse.{digits_value, AllDigits}
 use Rattle.order_file.specs.Fields.{a_number, Writes}
 use Rattle.std.specs.Char.{digit_value}
@@ -20,17 +20,20 @@ wide n h = omega arith
 pub written : (bs : List ℕ) → 0 < length bs → (get_or bs 0 0 ≡ 48 → length bs ≡ 1) → AllDigits 10 bs → digits_value 10 bs < 2 ^ 32 → bs ≡ decimal (digits_value 10 bs)
 written bs some lead ds small = sym (decimal-digits_value own bs ds some lead (omega arith))
 
-pub empty_not : (bs : List ℕ) → length bs ≡ 0 → (n : ℕ) → Writes a_number n bs → ⊥
-empty_not bs z n h = omega (arith, decimal_nonempty n (wide n h.0), ap length h.1)
-
-pub zero_not : (bs : List ℕ) → get_or bs 0 0 ≡ 48 → 1 < length bs → (n : ℕ) → Writes a_number n bs → ⊥
-zero_not bs z l zero h = omega (arith, ap length h.1, ap length (decimal_digit 0 (omega arith)))
-zero_not bs z l (suc n) h =
+-- what is written of a number is not empty, and 0 leads no other digits
+pub leads : (bs : List ℕ) (n : ℕ) → Writes a_number n bs → (0 < length bs) × (get_or bs 0 0 ≡ 48 → length bs ≡ 1)
+leads bs zero h = let one : length bs ≡ 1 = ap length h.1 ∙ ap length (decimal_digit 0 (omega arith)) in (omega arith, λ _. one)
+leads bs (suc n) h =
     let f : 48 < get_or (decimal (suc n)) 0 0 = first_decimal (suc n) (omega arith) (wide (suc n) h.0) in
-    let g : get_or bs 0 0 ≡ get_or (decimal (suc n)) 0 0 = ap (λ (x : List ℕ). get_or x 0 0) h.1 in omega arith
+    let g : get_or bs 0 0 ≡ get_or (decimal (suc n)) 0 0 = ap (λ (x : List ℕ). get_or x 0 0) h.1 in
+    let some : 0 < length bs = omega (arith, decimal_nonempty (suc n) (wide (suc n) h.0), ap length h.1) in
+    (some, λ z. omega arith)
 
 pub other_not : (bs : List ℕ) (i : ℕ) → i < length bs → (IsInRange 48 57 (get_or bs i 0) → ⊥) → (n : ℕ) → Writes a_number n bs → ⊥
 other_not bs i l bad n h = bad (digit_at bs i (subst (AllDigits 10) (sym h.1) (digits_decimal own n (wide n h.0))) l)
+
+pub no_digit : (bs : List ℕ) (i : ℕ) → i < length bs → (digit_value (get_or bs i 0) < 10 → ⊥) → (n : ℕ) → Writes a_number n bs → ⊥
+no_digit bs i l bad = other_not bs i l (λ r. let d : digit_value (get_or bs i 0) + 48 ≡ get_or bs i 0 = digit_value_digit (get_or bs i 0) r in bad (omega (arith, r)))
 
 front_le : (xs ys : List ℕ) → digits_value 10 xs ≤ digits_value 10 (xs ++ ys)
 front_le xs ys =
@@ -41,7 +44,7 @@ front_le xs ys =
     let g : number_from_digits 10 (map digit_value xs) ≤ number_from_digits_after 10 (number_from_digits 10 (map digit_value xs)) (map digit_value ys) = number_after_ge 10 (number_from_digits 10 (map digit_value xs)) (map digit_value ys) (omega arith) in
     omega arith
 
-pub large_not : (bs : List ℕ) (i : ℕ) → 2 ^ 32 ≤ digits_value 10 (take i bs) → (n : ℕ) → Writes a_number n bs → ⊥
+large_not : (bs : List ℕ) (i : ℕ) → 2 ^ 32 ≤ digits_value 10 (take i bs) → (n : ℕ) → Writes a_number n bs → ⊥
 large_not bs i l n h =
     let f : digits_value 10 (take i bs) ≤ digits_value 10 (take i bs ++ drop i bs) = front_le (take i bs) (drop i bs) in
     let g : digits_value 10 (take i bs ++ drop i bs) ≡ digits_value 10 bs = ap (digits_value 10) (take-append-drop i bs) in
@@ -49,13 +52,15 @@ large_not bs i l n h =
     omega arith
 
 -- one digit more
-pub record Longer (bs : List ℕ) (i v : ℕ) : Type 0 where
-  pub is : v ≡ digits_value 10 (take (i + 1) bs)
-  pub digits : AllDigits 10 (take (i + 1) bs)
+more : (bs : List ℕ) (i v d : ℕ) → i < length bs → v ≡ digits_value 10 (take i bs) → d ≡ digit_value (get_or bs i 0) → v * 10 + d ≡ digits_value 10 (take (i + 1) bs)
+more bs i v d l e f =
+    let m : digits_value 10 (take (i + 1) bs) ≡ digits_value 10 (take i bs) * 10 + digit_value (get_or bs i 0) = digits_value_more 10 bs i l in omega arith
 
-pub longer : (bs : List ℕ) (i v : ℕ) → i < length bs → v ≡ digits_value 10 (take i bs) → AllDigits 10 (take i bs) → 48 ≤ get_or bs i 0 → get_or bs i 0 ≤ 57
-    → Longer bs i (v * 10 + (get_or bs i 0 - 48))
-longer bs i v l e ds lo hi =
-    let d : digit_value (get_or bs i 0) + 48 ≡ get_or bs i 0 = digit_value_digit (get_or bs i 0) (lo, hi) in
-    let m : digits_value 10 (take (i + 1) bs) ≡ digits_value 10 (take i bs) * 10 + digit_value (get_or bs i 0) = digits_value_more 10 bs i l in
-    record { is = omega arith; digits = digits_more 10 bs i l ds (omega arith) }
+pub more_digits : (bs : List ℕ) (i v d w : ℕ) → i < length bs → v ≡ digits_value 10 (take i bs) → AllDigits 10 (take i bs)
+    → (digit_value (get_or bs i 0) < 10) × (d ≡ digit_value (get_or bs i 0)) → w ≡ v * 10 + d
+    → (w ≡ digits_value 10 (take (i + 1) bs)) × AllDigits 10 (take (i + 1) bs)
+more_digits bs i v d w l e ds f g = (g ∙ more bs i v d l e f.1, digits_more 10 bs i l ds f.0)
+
+pub too_many : (bs : List ℕ) (i v d : ℕ) → i < length bs → v ≡ digits_value 10 (take i bs) → d ≡ digit_value (get_or bs i 0) → 2 ^ 32 ≤ v * 10 + d
+    → (n : ℕ) → Writes a_number n bs → ⊥
+too_many bs i v d l e f big = let m = more bs i v d l e f in large_not bs (i + 1) (omega arith)

@@ -41,15 +41,15 @@ cell a_kind k p h = (word (kind_word k), (k, refl), sym h)
 cell a_number n p h = (digits n, (n, h.0, refl), sym h.1)
 cell a_blank x p h = (blank, refl, sym h)
 
-meet : (w : Want) (p : List ℕ) → Good w p → (f : Cell) × Meets w f × (shown f ≡ p)
-meet w p g = let v = good_value w p g in cell w v.0 p v.1
+meet : (w : Want) (p : List ℕ) → Good (Writes w) p → (f : Cell) × Meets w f × (shown f ≡ p)
+meet w p g = let v = good_value (Writes w) p g in cell w v.0 p v.1
 
-met : (w : Want) (f : Cell) → Meets w f → Good w (shown f)
-met a_verb f m = good a_verb m.0 (shown f) (ap shown m.1)
-met a_side f m = good a_side m.0 (shown f) (ap shown m.1)
-met a_kind f m = good a_kind m.0 (shown f) (ap shown m.1)
-met a_number f m = good a_number m.0 (shown f) (m.1, ap shown m.2)
-met a_blank f m = good a_blank tt (shown f) (ap shown m)
+met : (w : Want) (f : Cell) → Meets w f → Good (Writes w) (shown f)
+met a_verb f m = good (Writes a_verb) m.0 (shown f) (ap shown m.1)
+met a_side f m = good (Writes a_side) m.0 (shown f) (ap shown m.1)
+met a_kind f m = good (Writes a_kind) m.0 (shown f) (ap shown m.1)
+met a_number f m = good (Writes a_number) m.0 (shown f) (m.1, ap shown m.2)
+met a_blank f m = good (Writes a_blank) tt (shown f) (ap shown m)
 
 some : (w : Want) → (f : Cell) × Meets w f
 some a_verb = (word (verb_word Close'), (Close', refl))
@@ -99,7 +99,7 @@ off (w ∷ ws) n k (p ∷ ps) f here (inl a) =
       like = (some w).0 ∷ (filled ws).0;
       fills = ((some w).0, (filled ws).0, refl, (some w).1, (filled ws).1);
       so_far = refl;
-      no_further = λ gs h e. a.0 (subst (Good w) (head_same (shown h.0) (text p) [] [] (sym (ap (λ (x : List Cell). take 1 (map shown x)) h.2) ∙ e)) (met w h.0 h.3));
+      no_further = λ gs h e. a.0 (subst (Good (Writes w)) (head_same (shown h.0) (text p) [] [] (sym (ap (λ (x : List Cell). take 1 (map shown x)) h.2) ∙ e)) (met w h.0 h.3));
       blamed = rw (blames w (some w).0 (some w).1) (moved (Blamed (cause_of w)) (text p) n k (k + 0) f (omega arith) (subst (λ (x : Place). Blamed (cause_of w) (text p) x f) here.0 a.1));
     }
 off (w ∷ ws) n k (p ∷ ps) f here (inr a) =
@@ -489,7 +489,7 @@ by_word v bs n p ps (Err f) e l at q k =
     astray_done bs n (verb_word v ∷ map text ps) f (e ∙ ap (λ (x : List ℕ). x ∷ map text ps) q) (omega arith) (astray v n (map text ps) f (off (wants v) n 2 ps f at k))
 
 pub no_verb : (bs : List ℕ) (n : ℕ) (p : Part) (ps : List Part) (f : Fault) → cut bs ≡ text p ∷ map text ps → length (map text ps) + 1 ≡ field_count
-    → (p.place ≡ at n 1) → (Good a_verb (text p) → ⊥) → Blamed WrongWord (text p) p.place f → Done bs n (Err f)
+    → (p.place ≡ at n 1) → (Good (Writes a_verb) (text p) → ⊥) → Blamed WrongWord (text p) p.place f → Done bs n (Err f)
 no_verb bs n p ps f e l here bad b =
     astray_done bs n (text p ∷ map text ps) f e (omega arith)
     (record {
@@ -497,7 +497,7 @@ no_verb bs n p ps f e l here bad b =
       like = Close;
       fit = tt;
       so_far = refl;
-      no_further = λ c h q. bad (good a_verb (instruction_verb c) (text p) (sym (head_same (verb_word (instruction_verb c)) (text p) [] [] q)));
+      no_further = λ c h q. bad (good (Writes a_verb) (instruction_verb c) (text p) (sym (head_same (verb_word (instruction_verb c)) (text p) [] [] q)));
       blamed = subst (λ (x : Place). Blamed WrongWord (text p) x f) here b;
     })
 

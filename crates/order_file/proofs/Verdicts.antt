@@ -1,45 +1,50 @@
 -- From what a part shows to the verdict on it.
-use Rattle.std.proofs.Common.{◌≡◌, ℕ, List, Ok, Err, sym, ap, ◌∙◌, subst, Bor}
+use Rattle.std.proofs.Common.{◌≡◌, ℕ, ◌<◌, List, Some, None, Ok, Err, Option, get_or, sym, ap, ◌∙◌, subst, arith, Bor, ok_or}
 use Rattle.market.specs.Written.{dash}
 use Rattle.order_file.specs.Faults.{bad_field}
-use Rattle.order_file.specs.Fields.{Want, a_number, Value, Writes, text, Shows, Good, cause_of, Judged}
-use Rattle.order_file.specs.declared.faults.Cause.TheVariants.{Misused}
+use Rattle.order_file.specs.Fields.{a_number, Writes, Spells, Reads, text, Shows, Good, Judged}
+use Rattle.order_file.specs.declared.faults.Cause.{Cause}
+use Rattle.order_file.specs.declared.faults.Cause.TheVariants.{WrongWord, Misused}
 use Rattle.order_file.specs.declared.faults.Fault.{Fault}
 use Rattle.order_file.specs.declared.fields.Place.{Place}
 use Rattle.order_file.specs.declared.fields.Part.{Part}
-use Rattle.order_file.specs.declared.fields.Field.TheVariants.{Word, Number, Blank}
+use Rattle.order_file.specs.declared.fields.Field.TheVariants.{Word}
+use Rattle.order_file.proofs.Numbers.{leads, other_not}
 
-pub good : (w : Want) (x : Value w) (p : List ℕ) → Writes w x p → Good w p
+pub good : {X : Type 0} (writes : X → List ℕ → Type 0) (x : X) (p : List ℕ) → writes x p → Good writes p
 unfolding Good
-good w x p h = (x, h)
+good writes x p h = (x, h)
 
-pub good_value : (w : Want) (p : List ℕ) → Good w p → (x : Value w) × Writes w x p
+pub good_value : {X : Type 0} (writes : X → List ℕ → Type 0) (p : List ℕ) → Good writes p → (x : X) × writes x p
 unfolding Good
-good_value w p g = g
+good_value writes p g = g
 
-bad : (w : Want) (p : List ℕ) → ((x : Value w) → Writes w x p → ⊥) → Good w p → ⊥
-bad w p h g = let v = good_value w p g in h v.0 v.1
+bad : {X : Type 0} (writes : X → List ℕ → Type 0) (p : List ℕ) → ((x : X) → writes x p → ⊥) → Good writes p → ⊥
+bad writes p h g = let v = good_value writes p g in h v.0 v.1
 
-pub taken : (w : Want) (p : Part) (x : Value w) → Writes w x (text p) → Judged w p (Ok x)
-taken w p x h = (h, good w x (text p) h)
-
-pub taken_word : (w : Want) (p : Part) (b : Bor (List ℕ)) (at : Place) (x : Value w) → Shows p (Word b at) → Writes w x b.now → Judged w p (Ok x)
-taken_word w p b at x s h = taken w p x (subst (Writes w x) s.0 h)
+pub taken : {X : Type 0} (writes : X → List ℕ → Type 0) (cause : Cause) (p : Part) (x : X) → writes x (text p) → Judged writes cause p (Ok x)
+taken writes cause p x h = (h, good writes x (text p) h)
 
 -- a part that is no blank, and writes no value that is wanted
-pub wrong : (w : Want) (p : Part) (at : Place) (f : Fault) → at ≡ p.place → (text p ≡ dash → ⊥) → ((x : Value w) → Writes w x (text p) → ⊥)
-    → f ≡ bad_field (cause_of w) at → Judged w p (Err f)
-wrong w p at f here used h e = (bad w (text p) h, ((λ d. absurd (used d)), λ _. e ∙ ap (bad_field (cause_of w)) here))
+pub wrong : {X : Type 0} (writes : X → List ℕ → Type 0) (cause : Cause) (p : Part) (at : Place) (f : Fault) → at ≡ p.place → (text p ≡ dash → ⊥) → ((x : X) → writes x (text p) → ⊥)
+    → f ≡ bad_field cause at → Judged writes cause p (Err f)
+wrong writes cause p at f here used h e = (bad writes (text p) h, ((λ d. absurd (used d)), λ _. e ∙ ap (bad_field cause) here))
 
-pub wrong_word : (w : Want) (p : Part) (b : Bor (List ℕ)) (at : Place) (f : Fault) → Shows p (Word b at) → ((x : Value w) → Writes w x b.now → ⊥)
-    → f ≡ bad_field (cause_of w) at → Judged w p (Err f)
-wrong_word w p b at f s h e = wrong w p at f s.1 s.2 (λ x k. h x (subst (Writes w x) (sym s.0) k)) e
+-- a blank, which writes no value that is wanted
+pub unused : {X : Type 0} (writes : X → List ℕ → Type 0) (cause : Cause) (p : Part) (at : Place) (f : Fault) → at ≡ p.place → text p ≡ dash → ((x : X) → writes x dash → ⊥)
+    → f ≡ bad_field Misused at → Judged writes cause p (Err f)
+unused writes cause p at f here d h e =
+    (bad writes (text p) (λ x k. h x (subst (writes x) d k)), ((λ _. e ∙ ap (bad_field Misused) here), λ n. absurd (n d)))
 
-pub wrong_number : (w : Want) (p : Part) (b : Bor (List ℕ)) (n : ℕ) (at : Place) (f : Fault) → Shows p (Number b n at)
-    → ((x : Value w) (q : List ℕ) (m : ℕ) → Writes a_number m q → Writes w x q → ⊥) → f ≡ bad_field (cause_of w) at → Judged w p (Err f)
-wrong_number w p b n at f s h e = wrong w p at f s.1 s.2 (λ x k. h x (text p) n s.3 k) e
+-- a part that shows a word, which is read as one of a type
+pub read_word : {X : Type 0} (spelling : X → List ℕ) (p : Part) (b : Bor (List ℕ)) (at : Place) (o : Option X) (f : Fault) → Shows p (Word b at) → Reads (Spells spelling) b.now o
+    → f ≡ bad_field WrongWord at → Judged (Spells spelling) WrongWord p (ok_or o f)
+read_word spelling p b at (Some x) f s h e = taken (Spells spelling) WrongWord p x (sym s.0 ∙ h)
+read_word spelling p b at None f s h e = wrong (Spells spelling) WrongWord p at f s.1 s.2 (λ x k. h x (s.0 ∙ k)) e
 
-pub wrong_blank : (w : Want) (p : Part) (b : Bor (List ℕ)) (at : Place) (f : Fault) → Shows p (Blank b at)
-    → ((x : Value w) (q : List ℕ) → Writes w x q → q ≡ dash → ⊥) → f ≡ bad_field Misused at → Judged w p (Err f)
-wrong_blank w p b at f s h e =
-    (bad w (text p) (λ x k. h x (text p) k s.2), ((λ _. e ∙ ap (bad_field Misused) s.1), λ d. absurd (d s.2)))
+-- words begin above the digits
+pub above_digits : (w p : List ℕ) (n : ℕ) → 57 < get_or w 0 0 → Writes a_number n p → p ≡ w → ⊥
+above_digits w p n l h e = let f : get_or p 0 0 ≡ get_or w 0 0 = ap (λ (x : List ℕ). get_or x 0 0) e in other_not p 0 (leads p n h).0 (λ i. omega (arith, i)) n h
+
+pub above_dash : (w : List ℕ) → 57 < get_or w 0 0 → dash ≡ w → ⊥
+above_dash w l e = omega (arith, ap (λ (x : List ℕ). get_or x 0 0) e)

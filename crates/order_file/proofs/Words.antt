@@ -42,8 +42,8 @@ verb_not_number Quote p n h e = clash 113 (codes "uote") p n (λ i. omega arith)
 verb_not_number Close p n h e = clash 99 (codes "lose") p n (λ i. omega arith) h e
 verb_not_number Expire p n h e = clash 101 (codes "xpire") p n (λ i. omega arith) h e
 
-pub number_not_dash : (n : ℕ) (p : List ℕ) → Writes a_number n p → p ≡ dash → ⊥
-number_not_dash n p h e = clash 45 [] p n (λ i. omega arith) h e
+pub number_not_dash : (n : ℕ) → Writes a_number n dash → ⊥
+number_not_dash n h = other_not dash 0 (omega arith) (λ i. omega arith) n h
 
 differ : (a b : ℕ) (xs ys p : List ℕ) → (a ≡ b → ⊥) → p ≡ a ∷ xs → p ≡ b ∷ ys → ⊥
 differ a b xs ys p n h e = n (let z : a ≡ b = cc in z)

@@ -29,18 +29,22 @@ Value a_kind = Kind
 Value a_number = ℕ
 Value a_blank = Unit {0}
 
+-- the words of a type, and the bytes that are one of them
+abbrev pub Spells : {X : Type 0} → (X → List ℕ) → X → List ℕ → Type 0
+Spells spelling x p = p ≡ spelling x
+
 -- the bytes that write a value; a number has 32 bits, and no zero before other digits
 abbrev pub Writes : (w : Want) → Value w → List ℕ → Type 0
-Writes a_verb v p = p ≡ verb_word v
-Writes a_side s p = p ≡ side_word s
-Writes a_kind k p = p ≡ kind_word k
+Writes a_verb v p = Spells verb_word v p
+Writes a_side s p = Spells side_word s p
+Writes a_kind k p = Spells kind_word k p
 Writes a_number n p = (n < 2 ^ 32) × (p ≡ decimal n)
 Writes a_blank x p = p ≡ dash
 
 -- the value that the bytes write, if they write one
-abbrev pub Reads : (w : Want) → List ℕ → Option (Value w) → Type 0
-Reads w p (Some x) = Writes w x p
-Reads w p None = (x : Value w) → Writes w x p → ⊥
+abbrev pub Reads : {X : Type 0} → (X → List ℕ → Type 0) → List ℕ → Option X → Type 0
+Reads writes p (Some x) = writes x p
+Reads {X = X} writes p None = (x : X) → writes x p → ⊥
 
 -- a field is a blank, a number, or else a word; it keeps its part of the file's bytes and its place
 abbrev pub Shows : Part → Field → Type 0
@@ -48,9 +52,9 @@ Shows p (Word b at) = (b.now ≡ text p) × (at ≡ p.place) × (text p ≢ dash
 Shows p (Number b n at) = (b.now ≡ text p) × (at ≡ p.place) × (text p ≢ dash) × Writes a_number n (text p)
 Shows p (Blank b at) = (b.now ≡ text p) × (at ≡ p.place) × (text p ≡ dash)
 
--- the bytes that meet a want
-unfoldable pub Good : Want → List ℕ → Type 0
-Good w p = (x : Value w) × Writes w x p
+-- the bytes that write some value
+unfoldable pub Good : {X : Type 0} → (X → List ℕ → Type 0) → List ℕ → Type 0
+Good {X = X} writes p = (x : X) × writes x p
 
 -- the cause where the field shows no blank
 abbrev pub cause_of : Want → Cause
@@ -64,7 +68,7 @@ cause_of a_blank = Misused
 abbrev pub Blamed : Cause → List ℕ → Place → Fault → Type 0
 Blamed cause p at f = (p ≡ dash → f ≡ bad_field Misused at) × ((p ≢ dash) → f ≡ bad_field cause at)
 
--- the verdict on a part of which something is wanted
-abbrev pub Judged : (w : Want) → Part → Result (Value w) Fault → Type 0
-Judged w p (Ok x) = Writes w x (text p) × Good w (text p)
-Judged w p (Err f) = (Good w (text p) → ⊥) × Blamed (cause_of w) (text p) p.place f
+-- the verdict on a part that is to write a value
+abbrev pub Judged : {X : Type 0} → (X → List ℕ → Type 0) → Cause → Part → Result X Fault → Type 0
+Judged writes cause p (Ok x) = writes x (text p) × Good writes (text p)
+Judged writes cause p (Err f) = (Good writes (text p) → ⊥) × Blamed cause (text p) p.place f

@@ -72,12 +72,12 @@ IsBadFile bs f =
 -- accepted with the instructions cs exactly where the file is what cs are written as, and short enough
 abbrev pub FileAccepted : List ℕ → Result (Vec Instruction Global) ReadError → Type 0
 FileAccepted bs (Ok v) = (length bs ≤ most_bytes) × Fits (vec_items v) × (bs ≡ text_of (vec_items v))
-FileAccepted bs (Err Memory) = Unit {0}
+FileAccepted bs (Err (Memory e)) = Unit {0}
 FileAccepted bs (Err (Bad f)) = (cs : List Instruction) → length bs ≤ most_bytes → Fits cs → bs ≢ text_of cs
 
 abbrev pub FileFaults : List ℕ → Result (Vec Instruction Global) ReadError → Type 0
 FileFaults bs (Ok v) = Unit {0}
-FileFaults bs (Err Memory) = Unit {0}
+FileFaults bs (Err (Memory e)) = Unit {0}
 FileFaults bs (Err (Bad f)) = IsBadFile bs f
 
 -- no two instructions are written as one line, and no two lists of them as one file

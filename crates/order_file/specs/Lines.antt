@@ -1,11 +1,11 @@
 -- A line of values: its fields, what each kind of line wants of them, and what is wrong with a line that writes no instruction.
-use Rattle.std.specs.Prelude.{◌≡◌, ℕ, ◌+◌, ◌<◌, cond, ◌⊎◌, List, [], ◌∷◌, map, length, take, Some, None, Ok, Err, Option, Result, ◌==◌, ◌≢◌, slice_index, slice_index_or}
+use Rattle.std.specs.Prelude.{◌≡◌, ℕ, ◌+◌, ◌<◌, cond, ◌⊎◌, List, [], ◌∷◌, ◌++◌, map, length, take, Some, None, Ok, Err, Option, Result, ◌==◌, ◌≢◌, slice_index, slice_index_or}
 use Rattle.std.specs.Borrow.{Bor}
 use Rattle.market.specs.declared.types.Terms.{Terms}
 use Rattle.market.specs.Written.{Cell, word, digits, blank, dash, shown, spaced, kind_word}
 use Rattle.order_file.specs.Faults.{bad_line}
 use Rattle.order_file.specs.Instructions.{verb_word, cells_of, texts, written, Narrow, Fit}
-use Rattle.order_file.specs.Fields.{Want, a_side, a_kind, a_number, a_blank, Good, cause_of, text, Blamed}
+use Rattle.order_file.specs.Fields.{Want, a_side, a_kind, a_number, a_blank, Writes, Good, cause_of, text, Blamed}
 use Rattle.order_file.specs.declared.instructions.Instruction.{Instruction}
 use Rattle.order_file.specs.declared.instructions.Verb.{Verb}
 use Rattle.order_file.specs.declared.instructions.Verb.TheVariants.{Enter, Replace, Cut, Cancel, Reply, Quote, Close, Expire}
@@ -13,6 +13,7 @@ use Rattle.order_file.specs.declared.faults.Cause.{Cause}
 use Rattle.order_file.specs.declared.faults.Cause.TheVariants.{WrongWord, NotNumber, Misused}
 use Rattle.order_file.specs.declared.faults.Fault.{Fault}
 use Rattle.order_file.specs.declared.fields.Part.{Part}
+use Rattle.order_file.specs.declared.lines.Fields.{Fields}
 use Rattle.order_file.specs.declared.lines.Row.{Row}
 
 -- call side price size show kind user number venue
@@ -34,10 +35,10 @@ wants Expire = a_blank ∷ a_blank ∷ a_blank ∷ a_blank ∷ a_blank ∷ a_bla
 abbrev pub Lacks : ℕ → List ℕ → Type 0
 Lacks b bs = (k : ℕ) → k < length bs → slice_index bs k ≢ b
 
--- the first place of b
-abbrev pub Finds : ℕ → List ℕ → Option ℕ → Type 0
-Finds b bs None = Lacks b bs
-Finds b bs (Some i) = (i < length bs) × (slice_index bs i ≡ b) × ((k : ℕ) → k < i → slice_index bs k ≢ b)
+-- what stands before the first b, and what after it
+abbrev pub SplitAt : ℕ → List ℕ → Option (Bor (List ℕ) × Bor (List ℕ)) → Type 0
+SplitAt b bs None = Lacks b bs
+SplitAt b bs (Some x) = (bs ≡ x.0.now ++ b ∷ x.1.now) × Lacks b x.0.now
 
 -- fields that hold no space
 abbrev pub Plain : List (List ℕ) → Type 0
@@ -53,9 +54,15 @@ abbrev pub cut : List ℕ → List (List ℕ)
 cut [] = [] ∷ []
 cut (b ∷ bs) = cond (b == 32) ([] ∷ cut bs) (onto b (cut bs))
 
-abbrev pub Heads : List ℕ → Option (Bor (List ℕ) × Bor (List ℕ)) → Type 0
-Heads bs None = cut bs ≡ bs ∷ []
-Heads bs (Some x) = cut bs ≡ x.0.now ∷ cut x.1.now
+-- the next field, which has others after it, and what is left of the line then
+abbrev pub NextField : Fields → Result Part Fault → Fields → Type 0
+NextField old (Ok p) new = (cut old.rest.now ≡ text p ∷ cut new.rest.now) × (p.place ≡ old.place) × (new.place ≡ record { line = old.place.line; field = old.place.field + 1 })
+NextField old (Err f) new = (cut old.rest.now ≡ old.rest.now ∷ []) × (f ≡ bad_line old.place.line)
+
+-- the last field, which is all that is left of the line
+abbrev pub LastField : Fields → Result Part Fault → Type 0
+LastField l (Ok p) = (cut l.rest.now ≡ text p ∷ []) × (p.place ≡ l.place)
+LastField l (Err f) = (1 < length (cut l.rest.now)) × (f ≡ bad_line l.place.line)
 
 abbrev pub values : Row → List Part
 values r = r.side ∷ r.price ∷ r.size ∷ r.show ∷ r.kind ∷ r.user ∷ r.number ∷ r.venue ∷ []
@@ -76,14 +83,14 @@ Rows bs n (Err f) = (length (cut bs) ≢ field_count) × (f ≡ bad_line n)
 abbrev pub Amiss : List Want → List Part → Fault → Type 0
 Amiss [] ps f = ⊥
 Amiss (w ∷ ws) [] f = ⊥
-Amiss (w ∷ ws) (p ∷ ps) f = ((Good w (text p) → ⊥) × Blamed (cause_of w) (text p) p.place f) ⊎ (Good w (text p) × Amiss ws ps f)
+Amiss (w ∷ ws) (p ∷ ps) f = ((Good (Writes w) (text p) → ⊥) × Blamed (cause_of w) (text p) p.place f) ⊎ (Good (Writes w) (text p) × Amiss ws ps f)
 
 -- every part is as wanted
 abbrev pub AllGood : List Want → List Part → Type 0
 AllGood [] [] = Unit {0}
 AllGood [] (p ∷ ps) = ⊥
 AllGood (w ∷ ws) [] = ⊥
-AllGood (w ∷ ws) (p ∷ ps) = Good w (text p) × AllGood ws ps
+AllGood (w ∷ ws) (p ∷ ps) = Good (Writes w) (text p) × AllGood ws ps
 
 -- price size show kind user
 abbrev pub term_wants : List Want

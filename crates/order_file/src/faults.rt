@@ -8,7 +8,7 @@ use std::alloc::AllocError;
 use std::fmt;
 
 // What is wrong.
-#[derive(Clone, Copy)]
+#[derive(Clone, Copy, PartialEq, Eq, Debug)]
 pub enum Cause {
     // The names line is wrong or absent.
     NoNames,
@@ -25,7 +25,7 @@ pub enum Cause {
 }
 
 // Which part of the reader found the fault.
-#[derive(Clone, Copy)]
+#[derive(Clone, Copy, PartialEq, Eq, Debug)]
 pub enum Layer {
     Field,
     Line,
@@ -33,7 +33,7 @@ pub enum Layer {
 }
 
 // The first thing that is wrong. Lines and fields count from 1, and 0 says that there is none.
-#[derive(Clone, Copy)]
+#[derive(Clone, Copy, PartialEq, Eq, Debug)]
 pub struct Fault {
     pub cause: Cause,
     pub line: u32,
@@ -42,17 +42,18 @@ pub struct Fault {
 }
 
 // Why a file was not read.
-#[derive(Clone, Copy)]
+#[derive(Clone, Copy, PartialEq, Eq, Debug)]
 pub enum ReadError {
-    Memory,
+    Memory(AllocError),
     Bad(Fault),
 }
 
-impl Cause {
-    pub fn code(self) -> u32
-        ensures { result ≡ cause_code self }
-    {
-        match self {
+// A cause's number in the file of faults.
+impl From<Cause> for u32 {
+    ghost from_gives = { λ c n. n ≡ cause_code c };
+
+    fn from(cause: Cause) -> u32 {
+        match cause {
             Cause::NoNames => 41,
             Cause::BadLine => 42,
             Cause::WrongWord => 43,
@@ -110,7 +111,7 @@ impl Fault {
 }
 
 impl From<Fault> for ReadError {
-    ghost from_gives = { λ f e. e ≡ Bad f };
+    ghost from_gives = { λ f r. r ≡ Bad f };
 
     fn from(fault: Fault) -> ReadError {
         ReadError::Bad(fault)
@@ -118,10 +119,10 @@ impl From<Fault> for ReadError {
 }
 
 impl From<AllocError> for ReadError {
-    ghost from_gives = { λ _ e. e ≡ Memory };
+    ghost from_gives = { λ e r. r ≡ Memory e };
 
-    fn from(_e: AllocError) -> ReadError {
-        ReadError::Memory
+    fn from(error: AllocError) -> ReadError {
+        ReadError::Memory(error)
     }
 }
 
@@ -130,7 +131,7 @@ impl fmt::Display for Cause {
     ghost output = { λ c. Some (decimal (cause_code c)) };
 
     fn fmt<W: fmt::Write>(&self, f: &mut fmt::Formatter<W>) -> fmt::Result {
-        let code = self.code();
+        let code = u32::from(*self);
         write!(f, "{code}")
     }
 }

@@ -1,15 +1,17 @@
 // The fields of a line: what each shows, and whether it is what is wanted.
-ghost use Rattle.std.specs.Prelude.{◌≡◌, Decides};
-ghost use Rattle.order_file.specs.Fields.{a_verb, a_side, a_kind, a_number, a_blank, Reads, Shows, Judged};
+ghost use Rattle.std.specs.Prelude.{◌≡◌, ℕ, ◌<◌, List, slice_index};
+ghost use Rattle.market.specs.Written.{side_word, kind_word};
+ghost use Rattle.order_file.specs.Instructions.{verb_word};
+ghost use Rattle.order_file.specs.Fields.{a_number, a_blank, Writes, Spells, Reads, Shows, Judged};
+ghost use Rattle.order_file.specs.declared.faults.Cause.TheVariants.{WrongWord as wrong_word, NotNumber as not_number, Misused as misused};
+ghost use Rattle.std.proofs.Common.{rules};
 
 use crate::faults::{Cause, Fault};
 use crate::instructions::Verb;
 use market::types::{Kind, Side};
 
-const LARGEST_NUMBER: u64 = 4_294_967_295;
-
 // Where a field stands. Lines and fields count from 1.
-#[derive(Clone, Copy)]
+#[derive(Clone, Copy, PartialEq, Eq, Debug)]
 pub struct Place {
     pub line: u32,
     pub field: u32,
@@ -30,87 +32,84 @@ pub enum Field<'a> {
     Blank(&'a [u8], Place),
 }
 
+// A type whose values are written as words.
+pub trait Word: Sized {
+    // The word of each value.
+    ghost word: { Self → List ℕ };
+
+    // The value of the word that the bytes are.
+    fn of_bytes(bytes: &[u8]) -> Option<Self>
+        ensures { Reads (Spells word) bytes.now result };
+
+    // Each begins above the digits, so that none is a number or a blank.
+    ghost letter: { (x : Self) → 57 < slice_index (word x) 0 };
+}
+
+impl Word for Side {
+    ghost word = { side_word };
+
+    ghost letter = { Prim.search rules };
+
+    fn of_bytes(bytes: &[u8]) -> Option<Side> {
+        let [letter] = bytes else { return None };
+        match *letter as char {
+            'B' => Some(Side::Buy),
+            'S' => Some(Side::Sell),
+            _ => None,
+        }
+    }
+}
+
+impl Word for Kind {
+    ghost word = { kind_word };
+
+    ghost letter = { Prim.search rules };
+
+    fn of_bytes(bytes: &[u8]) -> Option<Kind> {
+        let [letter] = bytes else { return None };
+        match *letter as char {
+            'L' => Some(Kind::Limit),
+            'B' => Some(Kind::BookOnly),
+            'I' => Some(Kind::Immediate),
+            'S' => Some(Kind::Sweep),
+            _ => None,
+        }
+    }
+}
+
+impl Word for Verb {
+    ghost word = { verb_word };
+
+    ghost letter = { Prim.search rules };
+
+    fn of_bytes(bytes: &[u8]) -> Option<Verb> {
+        match bytes {
+            b"enter" => Some(Verb::Enter),
+            b"replace" => Some(Verb::Replace),
+            b"cut" => Some(Verb::Cut),
+            b"cancel" => Some(Verb::Cancel),
+            b"reply" => Some(Verb::Reply),
+            b"quote" => Some(Verb::Quote),
+            b"close" => Some(Verb::Close),
+            b"expire" => Some(Verb::Expire),
+            _ => None,
+        }
+    }
+}
+
 // The number that the bytes write: digits alone, no zero before others, at most 32 bits.
 fn number_of(bytes: &[u8]) -> Option<u32>
-    ensures { Reads a_number bytes.now result }
+    ensures { Reads (Writes a_number) bytes.now result }
 {
-    if bytes.len() == 0 {
-        return None;
-    }
-    if bytes.len() > 1 && bytes[0] == b'0' {
+    if matches!(bytes, [] | [b'0', _, ..]) {
         return None;
     }
     let mut value: u32 = 0;
     for b in bytes {
-        if *b < b'0' || *b > b'9' {
-            return None;
-        }
-        let more = value as u64 * 10 + (*b - b'0') as u64;
-        if more > LARGEST_NUMBER {
-            return None;
-        }
-        value = more as u32;
+        let digit = (*b as char).to_digit(10)?;
+        value = value.checked_mul(10)?.checked_add(digit)?;
     }
     Some(value)
-}
-
-// Whether the bytes are those of the text.
-pub fn spells(bytes: &[u8], text: &str) -> bool
-    ensures { Decides result (bytes.now ≡ text.now) }
-{
-    bytes == text.as_bytes()
-}
-
-fn side_of(bytes: &[u8]) -> Option<Side>
-    ensures { Reads a_side bytes.now result }
-{
-    if bytes.len() != 1 {
-        return None;
-    }
-    match bytes[0] as char {
-        'B' => Some(Side::Buy),
-        'S' => Some(Side::Sell),
-        _ => None,
-    }
-}
-
-fn kind_of(bytes: &[u8]) -> Option<Kind>
-    ensures { Reads a_kind bytes.now result }
-{
-    if bytes.len() != 1 {
-        return None;
-    }
-    match bytes[0] as char {
-        'L' => Some(Kind::Limit),
-        'B' => Some(Kind::BookOnly),
-        'I' => Some(Kind::Immediate),
-        'S' => Some(Kind::Sweep),
-        _ => None,
-    }
-}
-
-fn verb_of(bytes: &[u8]) -> Option<Verb>
-    ensures { Reads a_verb bytes.now result }
-{
-    if spells(bytes, "enter") {
-        Some(Verb::Enter)
-    } else if spells(bytes, "replace") {
-        Some(Verb::Replace)
-    } else if spells(bytes, "cut") {
-        Some(Verb::Cut)
-    } else if spells(bytes, "cancel") {
-        Some(Verb::Cancel)
-    } else if spells(bytes, "reply") {
-        Some(Verb::Reply)
-    } else if spells(bytes, "quote") {
-        Some(Verb::Quote)
-    } else if spells(bytes, "close") {
-        Some(Verb::Close)
-    } else if spells(bytes, "expire") {
-        Some(Verb::Expire)
-    } else {
-        None
-    }
 }
 
 impl<'a> Part<'a> {
@@ -118,7 +117,7 @@ impl<'a> Part<'a> {
         ensures { Shows self.entry result }
     {
         let Part { bytes, place } = self;
-        if bytes.len() == 1 && bytes[0] == b'-' {
+        if matches!(bytes, b"-") {
             return Field::Blank(bytes, place);
         }
         match number_of(bytes) {
@@ -128,7 +127,7 @@ impl<'a> Part<'a> {
     }
 
     pub fn number(self) -> Result<u32, Fault>
-        ensures { Judged a_number self.entry result }
+        ensures { Judged (Writes a_number) not_number self.entry result }
     {
         match self.field() {
             Field::Number(_, n, _) => Ok(n),
@@ -137,40 +136,13 @@ impl<'a> Part<'a> {
         }
     }
 
-    pub fn side(self) -> Result<Side, Fault>
-        ensures { Judged a_side self.entry result }
+    pub fn word<W: Word>(self) -> Result<W, Fault>
+        ensures { Judged (Spells W.word) wrong_word self.entry result }
     {
         match self.field() {
-            Field::Word(bytes, place) => match side_of(bytes) {
-                Some(side) => Ok(side),
-                None => Err(Fault::of_field(Cause::WrongWord, place)),
-            },
-            Field::Number(_, _, place) => Err(Fault::of_field(Cause::WrongWord, place)),
-            Field::Blank(_, place) => Err(Fault::of_field(Cause::Misused, place)),
-        }
-    }
-
-    pub fn kind(self) -> Result<Kind, Fault>
-        ensures { Judged a_kind self.entry result }
-    {
-        match self.field() {
-            Field::Word(bytes, place) => match kind_of(bytes) {
-                Some(kind) => Ok(kind),
-                None => Err(Fault::of_field(Cause::WrongWord, place)),
-            },
-            Field::Number(_, _, place) => Err(Fault::of_field(Cause::WrongWord, place)),
-            Field::Blank(_, place) => Err(Fault::of_field(Cause::Misused, place)),
-        }
-    }
-
-    pub fn verb(self) -> Result<Verb, Fault>
-        ensures { Judged a_verb self.entry result }
-    {
-        match self.field() {
-            Field::Word(bytes, place) => match verb_of(bytes) {
-                Some(verb) => Ok(verb),
-                None => Err(Fault::of_field(Cause::WrongWord, place)),
-            },
+            Field::Word(bytes, place) => {
+                W::of_bytes(bytes).ok_or(Fault::of_field(Cause::WrongWord, place))
+            }
             Field::Number(_, _, place) => Err(Fault::of_field(Cause::WrongWord, place)),
             Field::Blank(_, place) => Err(Fault::of_field(Cause::Misused, place)),
         }
@@ -178,7 +150,7 @@ impl<'a> Part<'a> {
 
     // That the field is left blank.
     pub fn blank(self) -> Result<(), Fault>
-        ensures { Judged a_blank self.entry result }
+        ensures { Judged (Writes a_blank) misused self.entry result }
     {
         match self.field() {
             Field::Blank(_, _) => Ok(()),

@@ -16,7 +16,7 @@ pub enum Instruction {
 }
 
 // The word that a line of values begins with.
-#[derive(Clone, Copy)]
+#[derive(Clone, Copy, PartialEq, Eq, Debug)]
 pub enum Verb {
     Enter,
     Replace,

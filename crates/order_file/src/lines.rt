@@ -1,7 +1,7 @@
 // The lines of values: cut into fields, and read as instructions.
-ghost use Rattle.std.specs.Prelude.{◌≡◌};
-ghost use Rattle.order_file.specs.Lines.{Finds, Heads, Rows, values, TermsTaken, WordAlone, Taken, Accepts, Faults};
-ghost use Rattle.order_file.specs.declared.instructions.Verb.TheVariants.{Enter as Enter', Replace as Replace', Cut as Cut', Cancel as Cancel', Reply as Reply', Quote as Quote', Close as Close', Expire as Expire'};
+ghost use Rattle.std.specs.Prelude.{◌≡◌, ◌<◌};
+ghost use Rattle.order_file.specs.Lines.{field_count, SplitAt, NextField, LastField, Rows, values, TermsTaken, WordAlone, Taken, Accepts, Faults};
+ghost use Rattle.order_file.specs.declared.instructions.Verb.TheVariants.{Enter as Enter', Replace as Replace', Cut as Cut', Cancel as Cancel', Reply as Reply', Quote as Quote'};
 
 use crate::faults::Fault;
 use crate::fields::{Part, Place};
@@ -22,95 +22,63 @@ pub struct Row<'a> {
     venue: Part<'a>,
 }
 
-// Where the byte stands first.
-pub fn find(bytes: &[u8], byte: u8) -> Option<usize>
-    ensures { Finds byte bytes.now result }
-{
-    for (i, b) in bytes.iter().enumerate() {
-        if *b == byte {
-            return Some(i);
-        }
-    }
-    None
+// What is left of a line, and where its next field stands.
+#[derive(Drop)]
+struct Fields<'a> {
+    rest: &'a [u8],
+    place: Place,
 }
 
-// The first field of what is left of a line and what follows its space, or nothing at the last field.
-fn head(bytes: &[u8]) -> Option<(&[u8], &[u8])>
-    ensures { Heads bytes.now result }
+// What stands before the first such byte, and what after it.
+pub fn split_once(bytes: &[u8], byte: u8) -> Option<(&[u8], &[u8])>
+    ensures { SplitAt byte bytes.now result }
 {
-    match find(bytes, b' ') {
-        Some(i) => Some((&bytes[0..i], &bytes[i + 1..])),
-        None => None,
+    let i = bytes.iter().position(|b| *b == byte)?;
+    Some((&bytes[..i], &bytes[i + 1..]))
+}
+
+impl<'a> Fields<'a> {
+    // The next field, which a space ends.
+    fn next(&mut self) -> Result<Part<'a>, Fault>
+        requires { self.old.place.field < field_count }
+        ensures { NextField self.old result self.new }
+    {
+        let place = self.place;
+        let (bytes, rest) = split_once(self.rest, b' ').ok_or(Fault::of_line(place.line))?;
+        self.rest = rest;
+        self.place.field += 1;
+        Ok(Part { bytes, place })
+    }
+
+    // The last field, which the line ends.
+    fn last(self) -> Result<Part<'a>, Fault>
+        ensures { LastField self.entry result }
+    {
+        let Fields { rest, place } = self;
+        match split_once(rest, b' ') {
+            Some(_) => Err(Fault::of_line(place.line)),
+            None => Ok(Part { bytes: rest, place }),
+        }
     }
 }
 
 fn cut_row(bytes: &[u8], line: u32) -> Result<Row<'_>, Fault>
     ensures { Rows bytes.now line result }
 {
-    let Some((call, rest)) = head(bytes) else {
-        return Err(Fault::of_line(line))
+    let mut fields = Fields {
+        rest: bytes,
+        place: Place { line, field: 1 },
     };
-    let Some((side, rest)) = head(rest) else {
-        return Err(Fault::of_line(line))
-    };
-    let Some((price, rest)) = head(rest) else {
-        return Err(Fault::of_line(line))
-    };
-    let Some((size, rest)) = head(rest) else {
-        return Err(Fault::of_line(line))
-    };
-    let Some((show, rest)) = head(rest) else {
-        return Err(Fault::of_line(line))
-    };
-    let Some((kind, rest)) = head(rest) else {
-        return Err(Fault::of_line(line))
-    };
-    let Some((user, rest)) = head(rest) else {
-        return Err(Fault::of_line(line))
-    };
-    let Some((number, venue)) = head(rest) else {
-        return Err(Fault::of_line(line))
-    };
-    if let Some(_) = head(venue) {
-        return Err(Fault::of_line(line));
-    }
     Ok(Row {
-        call: Part {
-            bytes: call,
-            place: Place { line, field: 1 },
-        },
-        side: Part {
-            bytes: side,
-            place: Place { line, field: 2 },
-        },
-        price: Part {
-            bytes: price,
-            place: Place { line, field: 3 },
-        },
-        size: Part {
-            bytes: size,
-            place: Place { line, field: 4 },
-        },
-        show: Part {
-            bytes: show,
-            place: Place { line, field: 5 },
-        },
-        kind: Part {
-            bytes: kind,
-            place: Place { line, field: 6 },
-        },
-        user: Part {
-            bytes: user,
-            place: Place { line, field: 7 },
-        },
-        number: Part {
-            bytes: number,
-            place: Place { line, field: 8 },
-        },
-        venue: Part {
-            bytes: venue,
-            place: Place { line, field: 9 },
-        },
+        call: fields.next()?,
+        side: fields.next()?,
+        price: fields.next()?,
+        size: fields.next()?,
+        show: fields.next()?,
+        kind: fields.next()?,
+        user: fields.next()?,
+        number: fields.next()?,
+        venue: fields.last()?,
     })
 }
 
@@ -121,7 +89,7 @@ fn terms(row: &Row<'_>) -> Result<Terms, Fault>
     let price = row.price.number()?;
     let size = row.size.number()?;
     let show = row.show.number()?;
-    let kind = row.kind.kind()?;
+    let kind = row.kind.word()?;
     let user = row.user.number()?;
     Ok(Terms {
         price,
@@ -135,7 +103,7 @@ fn terms(row: &Row<'_>) -> Result<Terms, Fault>
 fn enter(row: &Row<'_>) -> Result<Instruction, Fault>
     ensures { Taken Enter' (values row.now) result }
 {
-    let side = row.side.side()?;
+    let side = row.side.word()?;
     let terms = terms(row)?;
     row.number.blank()?;
     row.venue.blank()?;
@@ -197,7 +165,7 @@ fn reply(row: &Row<'_>) -> Result<Instruction, Fault>
 fn quote(row: &Row<'_>) -> Result<Instruction, Fault>
     ensures { Taken Quote' (values row.now) result }
 {
-    let side = row.side.side()?;
+    let side = row.side.word()?;
     let price = row.price.number()?;
     let size = row.size.number()?;
     row.show.blank()?;
@@ -223,20 +191,6 @@ fn word_alone(row: &Row<'_>) -> Result<(), Fault>
     Ok(())
 }
 
-fn close(row: &Row<'_>) -> Result<Instruction, Fault>
-    ensures { Taken Close' (values row.now) result }
-{
-    word_alone(row)?;
-    Ok(Instruction::Close)
-}
-
-fn expire(row: &Row<'_>) -> Result<Instruction, Fault>
-    ensures { Taken Expire' (values row.now) result }
-{
-    word_alone(row)?;
-    Ok(Instruction::Expire)
-}
-
 fn by_verb(verb: Verb, row: &Row<'_>) -> Result<Instruction, Fault>
     ensures { Taken verb (values row.now) result }
 {
@@ -247,8 +201,8 @@ fn by_verb(verb: Verb, row: &Row<'_>) -> Result<Instruction, Fault>
         Verb::Cancel => cancel(row),
         Verb::Reply => reply(row),
         Verb::Quote => quote(row),
-        Verb::Close => close(row),
-        Verb::Expire => expire(row),
+        Verb::Close => word_alone(row).and(Ok(Instruction::Close)),
+        Verb::Expire => word_alone(row).and(Ok(Instruction::Expire)),
     }
 }
 
@@ -258,6 +212,6 @@ pub fn read_line(bytes: &[u8], line: u32) -> Result<Instruction, Fault>
     ensures fault { Faults bytes.now line result }
 {
     let row = cut_row(bytes, line)?;
-    let verb = row.call.verb()?;
+    let verb = row.call.word()?;
     by_verb(verb, &row)
 }

@@ -2,12 +2,11 @@
 ghost use Rattle.std.specs.Prelude.{◌≡◌, ℕ, ◌+◌, ◌<◌, ◌≤◌, ◌∷◌, ◌++◌, length, Err, Decides, MatchResult, ◌≢◌};
 ghost use Rattle.order_file.specs.Faults.{too_long, no_names};
 ghost use Rattle.order_file.specs.Files.{names, most_bytes, Begins, Moves, stopped, FileAccepted, FileFaults, OneFileEach};
-ghost use Rattle.order_file.specs.declared.reader.Condition.TheVariants.{BeforeNames as before-names, AmongValues as among-values, Stopped as at_rest};
+ghost use Rattle.order_file.specs.declared.reader.Condition.TheVariants.{BeforeNames as before_names, AmongValues as among_values, Stopped as at_rest};
 
 use crate::faults::{Fault, ReadError};
-use crate::fields::spells;
 use crate::instructions::Instruction;
-use crate::lines::{find, read_line};
+use crate::lines::{read_line, split_once};
 use std::alloc::Global;
 
 const MOST_BYTES: usize = 32768;
@@ -46,15 +45,10 @@ struct Reader<'a> {
 fn next_line(bytes: &[u8]) -> Line<'_>
     ensures { Begins bytes.now result }
 {
-    match find(bytes, b'\n') {
-        Some(i) => Line::Ended(&bytes[0..i], &bytes[i + 1..]),
-        None => {
-            if bytes.len() == 0 {
-                Line::Absent
-            } else {
-                Line::Unended
-            }
-        }
+    match split_once(bytes, b'\n') {
+        Some((line, rest)) => Line::Ended(line, rest),
+        None if bytes.is_empty() => Line::Absent,
+        None => Line::Unended,
     }
 }
 
@@ -68,10 +62,11 @@ fn check_length(file: &[u8]) -> Result<(), Fault>
     }
 }
 
+#[tactic(auto, unfolding(crate::specs::Files::names))]
 fn check_names(line: &[u8]) -> Result<(), Fault>
     ensures { MatchResult result (λ _. line.now ≡ names) (λ f. (line.now ≢ names) × (f ≡ no_names)) }
 {
-    if spells(line, "call side price size show kind user number venue") {
+    if line == b"call side price size show kind user number venue".as_slice() {
         Ok(())
     } else {
         Err(Fault::of_names())
@@ -81,7 +76,7 @@ fn check_names(line: &[u8]) -> Result<(), Fault>
 impl<'a> Reader<'a> {
     fn new(file: &'a [u8]) -> Reader<'a>
         requires { length file.now ≤ most_bytes }
-        ensures { (result.rest.now ≡ file.now) × (result.line ≡ 1) × (result.condition ≡ before-names) }
+        ensures { (result.rest.now ≡ file.now) × (result.line ≡ 1) × (result.condition ≡ before_names) }
     {
         Reader {
             rest: file,
@@ -93,10 +88,7 @@ impl<'a> Reader<'a> {
     fn is_stopped(&self) -> bool
         ensures { result ≡ stopped self.now.condition }
     {
-        match self.condition {
-            Condition::BeforeNames | Condition::AmongValues => false,
-            Condition::Stopped => true,
-        }
+        matches!(self.condition, Condition::Stopped)
     }
 
     // Goes past a good line, to what follows it.
@@ -104,7 +96,7 @@ impl<'a> Reader<'a> {
         requires { length rest.now < length self.old.rest.now }
         ensures rest { self.new.rest.now ≡ rest.now }
         ensures line { self.new.line ≡ self.old.line + 1 }
-        ensures condition { self.new.condition ≡ among-values }
+        ensures condition { self.new.condition ≡ among_values }
     {
         self.rest = rest;
         self.line += 1;

@@ -9,46 +9,6 @@ use market::types::{Kind, Quotation, Terms};
 use std::alloc::{AllocError, Global};
 use std::fmt;
 
-// The end of an enter line, from show on.
-#[derive(Clone, Copy)]
-struct EnterEnd {
-    show: u32,
-    kind: Kind,
-    user: u32,
-}
-
-impl fmt::Display for EnterEnd {
-    ghost output = { λ e. Some (decimal e.show ++ 32 ∷ (kind_word e.kind ++ 32 ∷ (decimal e.user ++ codes " - -"))) };
-
-    fn fmt<W: fmt::Write>(&self, f: &mut fmt::Formatter<W>) -> fmt::Result {
-        let EnterEnd { show, kind, user } = *self;
-        write!(f, "{show} {kind} {user} - -")
-    }
-}
-
-// The end of a replace line, from show on.
-#[derive(Clone, Copy)]
-struct ReplaceEnd {
-    show: u32,
-    kind: Kind,
-    user: u32,
-    number: u32,
-}
-
-impl fmt::Display for ReplaceEnd {
-    ghost output = { λ e. Some (decimal e.show ++ 32 ∷ (kind_word e.kind ++ 32 ∷ (decimal e.user ++ 32 ∷ (decimal e.number ++ codes " -")))) };
-
-    fn fmt<W: fmt::Write>(&self, f: &mut fmt::Formatter<W>) -> fmt::Result {
-        let ReplaceEnd {
-            show,
-            kind,
-            user,
-            number,
-        } = *self;
-        write!(f, "{show} {kind} {user} {number} -")
-    }
-}
-
 // An instruction as its line, without the line's end.
 impl fmt::Display for Instruction {
     ghost output = { λ c. Some (written c) };
@@ -63,8 +23,7 @@ impl fmt::Display for Instruction {
                     kind,
                     user,
                 } = terms;
-                let end = EnterEnd { show, kind, user };
-                write!(f, "enter {side} {price} {size} {end}")
+                write!(f, "enter {side} {price} {size} {show} {kind} {user} - -")
             }
             Instruction::Replace(terms, number) => {
                 let Terms {
@@ -74,13 +33,10 @@ impl fmt::Display for Instruction {
                     kind,
                     user,
                 } = terms;
-                let end = ReplaceEnd {
-                    show,
-                    kind,
-                    user,
-                    number,
-                };
-                write!(f, "replace - {price} {size} {end}")
+                write!(
+                    f,
+                    "replace - {price} {size} {show} {kind} {user} {number} -"
+                )
             }
             Instruction::Cut { size, user, number } => write!(
                 f,
@@ -104,10 +60,7 @@ pub fn render(instructions: &[Instruction], heap: Global) -> Result<String, Allo
 {
     let mut out = String::from_str(heap, "call side price size show kind user number venue\n")?;
     for instruction in instructions {
-        match writeln!(out, "{instruction}") {
-            Ok(()) => {}
-            Err(_) => return Err(AllocError),
-        }
+        writeln!(out, "{instruction}")?;
     }
     Ok(out)
 }

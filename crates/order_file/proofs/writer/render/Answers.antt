@@ -19,7 +19,7 @@ unread = Enter Buy (record { price = 0; size = 0; show = 0; kind = Limit; user =
 
 pub loop-instruction-preserved : goal.loop-instruction-preserved
 loop-instruction-preserved c =
-    c.in-Ok.ensures.bytes ∙ ap (λ (x : List ℕ). x ++ (written (get_or c.args.instructions.now c.loop-instruction.instruction-index unread) ++ 10 ∷ [])) c.loop-instruction.invariant
+    c.in_ok-writeln.ensures.bytes ∙ ap (λ (x : List ℕ). x ++ (written (get_or c.args.instructions.now c.loop-instruction.instruction-index unread) ++ 10 ∷ [])) c.loop-instruction.invariant
     ∙ text_more c.args.instructions.now c.loop-instruction.instruction-index unread c.loop-instruction-test.true
 
 pub returns : goal.returns

@@ -1,4 +1,0 @@
-use Rattle.order_file.proofs.writer.ReplaceEndDisplay.fmt.Goals as goal
-
-pub returns-clause-writes : goal.returns-clause-writes
-returns-clause-writes g c = c.write.ensures.writes
