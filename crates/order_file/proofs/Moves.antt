@@ -12,7 +12,7 @@ use Rattle.order_file.specs.declared.reader.Condition.{Condition}
 use Rattle.order_file.specs.declared.reader.Condition.TheVariants.{BeforeNames, AmongValues, Stopped}
 use Rattle.order_file.specs.declared.reader.Line.{Line}
 use Rattle.order_file.specs.declared.reader.Line.TheVariants.{Ended, Unended, Absent}
-use Rattle.order_file.proofs.Words.{Free, free, free_by_high}
+use Rattle.order_file.proofs.Words.{Free, free, free_over}
 
 -- the first line end parts two lists alike
 pub one_way : (p q xs ys : List ℕ) → Free 10 p → Free 10 q → p ++ 10 ∷ xs ≡ q ++ 10 ∷ ys → (p ≡ q) × (xs ≡ ys)
@@ -35,7 +35,7 @@ single p u = simp append_assoc
 
 pub names_free : Free 10 names
 unfolding names
-names_free = free_by_high names refl
+names_free = free_over 10 10 (omega arith) names refl
 
 -- line by line
 pub shorter : (bs l t : List ℕ) → bs ≡ l ++ 10 ∷ t → length t < length bs

@@ -1,5 +1,5 @@
 -- The first field that is not as its line wants is the first that no instruction has.
-use Rattle.std.proofs.Common.{◌≡◌, ℕ, suc, ◌+◌, ◌^◌, ◌<◌, cond, eqb, ◌⊎◌, List, [], ◌∷◌, map, length, get_or, take, Ok, Err, Result, sym, refl, ap, ◌∙◌, subst, inl, inr, add-one, arith}
+use Rattle.std.proofs.Common.{◌≡◌, ℕ, suc, ◌+◌, ◌^◌, ◌<◌, ◌≤◌, cond, eqb, List, [], ◌∷◌, map, length, get_or, take, Ok, Err, Result, sym, refl, ap, ◌∙◌, subst, inl, inr, add-one, arith}
 use Rattle.market.specs.declared.types.Side.{Side}
 use Rattle.market.specs.declared.types.Side.TheVariants.{Buy}
 use Rattle.market.specs.declared.types.Kind.{Kind}
@@ -30,8 +30,10 @@ Meets a_number f = (n : ℕ) × (n < 2 ^ 32) × (f ≡ digits n)
 Meets a_blank f = f ≡ blank
 
 abbrev pub Fills : List Want → List Cell → Type 0
-Fills [] fs = fs ≡ []
-Fills (w ∷ ws) fs = (f : Cell) × (gs : List Cell) × (fs ≡ f ∷ gs) × Meets w f × Fills ws gs
+Fills [] [] = Unit {0}
+Fills [] (f ∷ fs) = ⊥
+Fills (w ∷ ws) [] = ⊥
+Fills (w ∷ ws) (f ∷ fs) = Meets w f × Fills ws fs
 
 -- a want has a cell for each good text, some cell at all, and one blame
 cell : (w : Want) (x : Value w) (p : List ℕ) → Writes w x p → (f : Cell) × Meets w f × (shown f ≡ p)
@@ -66,8 +68,8 @@ blames a_number f m = ap blame m.2
 blames a_blank f m = ap blame m
 
 filled : (ws : List Want) → (fs : List Cell) × Fills ws fs
-filled [] = ([], refl)
-filled (w ∷ ws) = ((some w).0 ∷ (filled ws).0, ((some w).0, (filled ws).0, refl, (some w).1, (filled ws).1))
+filled [] = ([], tt)
+filled (w ∷ ws) = ((some w).0 ∷ (filled ws).0, ((some w).1, (filled ws).1))
 
 -- what is amiss, of fields of line n from field k on
 record Off (ws : List Want) (n k : ℕ) (ps : List (List ℕ)) (f : Fault) : Type 0 where
@@ -90,233 +92,50 @@ at n k = record { line = n; field = k }
 moved : (b : List ℕ → Place → Fault → Type 0) (p : List ℕ) (n k j : ℕ) (f : Fault) → k ≡ j → b p (at n k) f → b p (at n j) f
 moved b p n k j f e h = subst (λ (x : ℕ). b p (at n x) f) e h
 
+off_here : (w : Want) (ws : List Want) (p : List ℕ) (ps : List (List ℕ)) → (Good (Writes w) p → ⊥)
+    → (gs : List Cell) → Fills (w ∷ ws) gs → take 1 (map shown gs) ≡ take 1 (p ∷ ps) → ⊥
+off_here w ws p ps bad [] h e = h
+off_here w ws p ps bad (g ∷ gs) h e = bad (subst (Good (Writes w)) (head_same (shown g) p [] [] e) (met w g h.0))
+
+off_later : (w : Want) (ws : List Want) (p : List ℕ) (ps : List (List ℕ)) (k : ℕ) → ((gs : List Cell) → Fills ws gs → take (suc k) (map shown gs) ≡ take (suc k) ps → ⊥)
+    → (gs : List Cell) → Fills (w ∷ ws) gs → take (suc (suc k)) (map shown gs) ≡ take (suc (suc k)) (p ∷ ps) → ⊥
+off_later w ws p ps k bad [] h e = h
+off_later w ws p ps k bad (g ∷ gs) h e = bad gs h.1 (tail_same (shown g) p _ _ e)
+
 off : (ws : List Want) (n k : ℕ) (ps : List Part) (f : Fault) → Placed n k ps → Amiss ws ps f → Off ws n k (map text ps) f
-off [] n k ps f at a = absurd a
-off (w ∷ ws) n k [] f at a = absurd a
-off (w ∷ ws) n k (p ∷ ps) f here (inl a) =
+off [] n k ps f placed a = absurd a
+off (w ∷ ws) n k [] f placed a = absurd a
+off (w ∷ ws) n k (p ∷ ps) f placed (inl a) =
     record {
       before = 0;
       like = (some w).0 ∷ (filled ws).0;
-      fills = ((some w).0, (filled ws).0, refl, (some w).1, (filled ws).1);
+      fills = ((some w).1, (filled ws).1);
       so_far = refl;
-      no_further = λ gs h e. a.0 (subst (Good (Writes w)) (head_same (shown h.0) (text p) [] [] (sym (ap (λ (x : List Cell). take 1 (map shown x)) h.2) ∙ e)) (met w h.0 h.3));
-      blamed = rw (blames w (some w).0 (some w).1) (moved (Blamed (cause_of w)) (text p) n k (k + 0) f (omega arith) (subst (λ (x : Place). Blamed (cause_of w) (text p) x f) here.0 a.1));
+      no_further = off_here w ws (text p) (map text ps) a.0;
+      blamed = rw (blames w (some w).0 (some w).1) (moved (Blamed (cause_of w)) (text p) n k (k + 0) f (omega arith) (subst (λ (x : Place). Blamed (cause_of w) (text p) x f) placed.0 a.1));
     }
-off (w ∷ ws) n k (p ∷ ps) f here (inr a) =
-    let o = off ws n (k + 1) ps f here.1 a.1 in
+off (w ∷ ws) n k (p ∷ ps) f placed (inr a) =
+    let o = off ws n (k + 1) ps f placed.1 a.1 in
     let m = meet w (text p) a.0 in
     record {
       before = suc o.before;
       like = m.0 ∷ o.like;
-      fills = (m.0, o.like, refl, m.1, o.fills);
+      fills = (m.1, o.fills);
       so_far = rw (m.2, o.so_far) refl;
-      no_further = λ gs h e. o.no_further h.1 h.4
-          (tail_same (shown h.0) (text p) _ _ (sym (ap (λ (x : List Cell). take (suc (suc o.before)) (map shown x)) h.2) ∙ e));
+      no_further = off_later w ws (text p) (map text ps) o.before o.no_further;
       blamed = moved (Blamed (blame (get_or o.like o.before blank))) (get_or (map text ps) o.before []) n ((k + 1) + o.before) (k + suc o.before) f (omega arith) o.blamed;
     }
 
 -- each instruction has what its word wants
 pub fills : (c : Instruction) → Fit c → Fills (wants (instruction_verb c)) (values_of c)
-fills (Enter s t) h = (
-  _,
-  _,
-  refl,
-  (s, refl),
-  (
-    _,
-    _,
-    refl,
-    (_, h.0, refl),
-    (
-      _,
-      _,
-      refl,
-      (_, h.1.0, refl),
-      (
-        _,
-        _,
-        refl,
-        (_, h.1.1.0, refl),
-        (_, _, refl, (t.kind, refl), (_, _, refl, (_, h.1.1.1.0, refl), (_, _, refl, refl, (_, _, refl, refl, refl)))),
-      ),
-    ),
-  ),
-)
-fills (Replace t n) h = (
-  _,
-  _,
-  refl,
-  refl,
-  (
-    _,
-    _,
-    refl,
-    (_, h.0, refl),
-    (
-      _,
-      _,
-      refl,
-      (_, h.1.0, refl),
-      (
-        _,
-        _,
-        refl,
-        (_, h.1.1.0, refl),
-        (_, _, refl, (t.kind, refl), (_, _, refl, (_, h.1.1.1.0, refl), (_, _, refl, (_, h.1.1.1.1.0, refl), (_, _, refl, refl, refl)))),
-      ),
-    ),
-  ),
-)
-fills (Cut z u n) h = (
-  _,
-  _,
-  refl,
-  refl,
-  (
-    _,
-    _,
-    refl,
-    refl,
-    (
-      _,
-      _,
-      refl,
-      (_, h.0, refl),
-      (
-        _,
-        _,
-        refl,
-        refl,
-        (_, _, refl, refl, (_, _, refl, (_, h.1.0, refl), (_, _, refl, (_, h.1.1.0, refl), (_, _, refl, refl, refl)))),
-      ),
-    ),
-  ),
-)
-fills (Cancel u n) h = (
-  _,
-  _,
-  refl,
-  refl,
-  (
-    _,
-    _,
-    refl,
-    refl,
-    (
-      _,
-      _,
-      refl,
-      refl,
-      (
-        _,
-        _,
-        refl,
-        refl,
-        (_, _, refl, refl, (_, _, refl, (_, h.0, refl), (_, _, refl, (_, h.1.0, refl), (_, _, refl, refl, refl)))),
-      ),
-    ),
-  ),
-)
-fills (Reply z n) h = (
-  _,
-  _,
-  refl,
-  refl,
-  (
-    _,
-    _,
-    refl,
-    refl,
-    (
-      _,
-      _,
-      refl,
-      (_, h.0, refl),
-      (
-        _,
-        _,
-        refl,
-        refl,
-        (_, _, refl, refl, (_, _, refl, refl, (_, _, refl, (_, h.1.0, refl), (_, _, refl, refl, refl)))),
-      ),
-    ),
-  ),
-)
-fills (Quote s q) h = (
-  _,
-  _,
-  refl,
-  (s, refl),
-  (
-    _,
-    _,
-    refl,
-    (_, h.0, refl),
-    (
-      _,
-      _,
-      refl,
-      (_, h.1.0, refl),
-      (
-        _,
-        _,
-        refl,
-        refl,
-        (_, _, refl, refl, (_, _, refl, refl, (_, _, refl, refl, (_, _, refl, (_, h.1.1.0, refl), refl)))),
-      ),
-    ),
-  ),
-)
-fills Close h = (
-  _,
-  _,
-  refl,
-  refl,
-  (
-    _,
-    _,
-    refl,
-    refl,
-    (
-      _,
-      _,
-      refl,
-      refl,
-      (
-        _,
-        _,
-        refl,
-        refl,
-        (_, _, refl, refl, (_, _, refl, refl, (_, _, refl, refl, (_, _, refl, refl, refl)))),
-      ),
-    ),
-  ),
-)
-fills Expire h = (
-  _,
-  _,
-  refl,
-  refl,
-  (
-    _,
-    _,
-    refl,
-    refl,
-    (
-      _,
-      _,
-      refl,
-      refl,
-      (
-        _,
-        _,
-        refl,
-        refl,
-        (_, _, refl, refl, (_, _, refl, refl, (_, _, refl, refl, (_, _, refl, refl, refl)))),
-      ),
-    ),
-  ),
-)
+fills (Enter s t) h = ((s, refl), ((_, h.0, refl), ((_, h.1.0, refl), ((_, h.1.1.0, refl), ((t.kind, refl), ((_, h.1.1.1.0, refl), (refl, (refl, tt))))))))
+fills (Replace t n) h = (refl, ((_, h.0, refl), ((_, h.1.0, refl), ((_, h.1.1.0, refl), ((t.kind, refl), ((_, h.1.1.1.0, refl), ((_, h.1.1.1.1.0, refl), (refl, tt))))))))
+fills (Cut z u n) h = (refl, (refl, ((_, h.0, refl), (refl, (refl, ((_, h.1.0, refl), ((_, h.1.1.0, refl), (refl, tt))))))))
+fills (Cancel u n) h = (refl, (refl, (refl, (refl, (refl, ((_, h.0, refl), ((_, h.1.0, refl), (refl, tt))))))))
+fills (Reply z n) h = (refl, (refl, ((_, h.0, refl), (refl, (refl, (refl, ((_, h.1.0, refl), (refl, tt))))))))
+fills (Quote s q) h = ((s, refl), ((_, h.0, refl), ((_, h.1.0, refl), (refl, (refl, (refl, (refl, ((_, h.1.1.0, refl), tt))))))))
+fills Close h = (refl, (refl, (refl, (refl, (refl, (refl, (refl, (refl, tt))))))))
+fills Expire h = (refl, (refl, (refl, (refl, (refl, (refl, (refl, (refl, tt))))))))
 
 -- the cells that fill a line's wants, one by one
 record Spread (w₂ w₃ w₄ w₅ w₆ w₇ w₈ w₉ : Want) (fs : List Cell) : Type 0 where
@@ -338,9 +157,25 @@ record Spread (w₂ w₃ w₄ w₅ w₆ w₇ w₈ w₉ : Want) (fs : List Cell) 
   m₉ : Meets w₉ f₉
   all : fs ≡ f₂ ∷ f₃ ∷ f₄ ∷ f₅ ∷ f₆ ∷ f₇ ∷ f₈ ∷ f₉ ∷ []
 
+first_cell : (w : Want) (ws : List Want) (fs : List Cell) → Fills (w ∷ ws) fs → (f : Cell) × (gs : List Cell) × (fs ≡ f ∷ gs) × Meets w f × Fills ws gs
+first_cell w ws [] a = absurd a
+first_cell w ws (f ∷ fs) a = (f, fs, refl, a.0, a.1)
+
+no_cell : (fs : List Cell) → Fills [] fs → fs ≡ []
+no_cell [] a = refl
+no_cell (f ∷ fs) a = absurd a
+
 spread : (w₂ w₃ w₄ w₅ w₆ w₇ w₈ w₉ : Want) (fs : List Cell) → Fills (w₂ ∷ w₃ ∷ w₄ ∷ w₅ ∷ w₆ ∷ w₇ ∷ w₈ ∷ w₉ ∷ []) fs → Spread w₂ w₃ w₄ w₅ w₆ w₇ w₈ w₉ fs
-spread w₂ w₃ w₄ w₅ w₆ w₇ w₈ w₉ fs a₂ =
-    let a₃ = a₂.4 in let a₄ = a₃.4 in let a₅ = a₄.4 in let a₆ = a₅.4 in let a₇ = a₆.4 in let a₈ = a₇.4 in let a₉ = a₈.4 in
+spread w₂ w₃ w₄ w₅ w₆ w₇ w₈ w₉ fs a =
+    let a₂ = first_cell w₂ (w₃ ∷ w₄ ∷ w₅ ∷ w₆ ∷ w₇ ∷ w₈ ∷ w₉ ∷ []) fs a in
+    let a₃ = first_cell w₃ (w₄ ∷ w₅ ∷ w₆ ∷ w₇ ∷ w₈ ∷ w₉ ∷ []) a₂.1 a₂.4 in
+    let a₄ = first_cell w₄ (w₅ ∷ w₆ ∷ w₇ ∷ w₈ ∷ w₉ ∷ []) a₃.1 a₃.4 in
+    let a₅ = first_cell w₅ (w₆ ∷ w₇ ∷ w₈ ∷ w₉ ∷ []) a₄.1 a₄.4 in
+    let a₆ = first_cell w₆ (w₇ ∷ w₈ ∷ w₉ ∷ []) a₅.1 a₅.4 in
+    let a₇ = first_cell w₇ (w₈ ∷ w₉ ∷ []) a₆.1 a₆.4 in
+    let a₈ = first_cell w₈ (w₉ ∷ []) a₇.1 a₇.4 in
+    let a₉ = first_cell w₉ [] a₈.1 a₈.4 in
+    let none = no_cell a₉.1 a₉.4 in
     record {
       f₂ = a₂.0;
       f₃ = a₃.0;
@@ -437,7 +272,7 @@ astray v n ps f o =
     }
 
 -- no field of an instruction has a space or a line end
-pub meets_free : (b : ℕ) → (b ≡ 32) ⊎ (b ≡ 10) → (w : Want) (f : Cell) → Meets w f → Free b (shown f)
+pub meets_free : (b : ℕ) → b ≤ 32 → (w : Want) (f : Cell) → Meets w f → Free b (shown f)
 meets_free b s a_verb f m = subst (Free b) (sym (ap shown m.1)) (verb_free b s m.0)
 meets_free b s a_side f m = subst (Free b) (sym (ap shown m.1)) (side_free b s m.0)
 meets_free b s a_kind f m = subst (Free b) (sym (ap shown m.1)) (kind_free b s m.0)
@@ -445,10 +280,10 @@ meets_free b s a_number f m = subst (Free b) (sym (ap shown m.2)) (number_free b
 meets_free b s a_blank f m = subst (Free b) (sym (ap shown m)) (dash_free b s)
 
 fills_plain : (ws : List Want) (fs : List Cell) → Fills ws fs → Plain (map shown fs) × (length (map shown fs) ≡ length ws)
-fills_plain [] fs h = rw h (tt, refl)
-fills_plain (w ∷ ws) fs h =
-    let r = fills_plain ws h.1 h.4 in
-    rw h.2 ((lacks 32 (shown h.0) (meets_free 32 (inl refl) w h.0 h.3), r.0), ap suc r.1)
+fills_plain [] [] h = (tt, refl)
+fills_plain [] (f ∷ fs) h = absurd h
+fills_plain (w ∷ ws) [] h = absurd h
+fills_plain (w ∷ ws) (f ∷ fs) h = let r = fills_plain ws fs h.1 in ((lacks 32 (shown f) (meets_free 32 (omega arith) w f h.0), r.0), ap suc r.1)
 
 wants_all : (v : Verb) → length (wants v) + 1 ≡ field_count
 wants_all Enter' = refl
@@ -463,7 +298,7 @@ wants_all Expire' = refl
 pub plain : (c : Instruction) → Fit c → Plain (texts c) × (length (texts c) ≡ field_count)
 plain c h =
     let r = fills_plain (wants (instruction_verb c)) (values_of c) (fills c h) in
-    ((lacks 32 (verb_word (instruction_verb c)) (verb_free 32 (inl refl) (instruction_verb c)), r.0), omega (arith, r.1, wants_all (instruction_verb c)))
+    ((lacks 32 (verb_word (instruction_verb c)) (verb_free 32 (omega arith) (instruction_verb c)), r.0), omega (arith, r.1, wants_all (instruction_verb c)))
 
 -- a line that writes an instruction is cut into the instruction's fields
 pub cut_line : (bs : List ℕ) (c : Instruction) → Fit c → bs ≡ written c → cut bs ≡ texts c

@@ -1,5 +1,5 @@
 -- What a file that writes instructions looks like, line by line.
-use Rattle.std.proofs.Common.{◌≡◌, ℕ, ◌+◌, ◌<◌, ◌≤◌, List, [], ◌∷◌, ◌++◌, map, length, get_or, take, Err, sym, refl, ap, ◌∙◌, subst, inl, inr, arith}
+use Rattle.std.proofs.Common.{◌≡◌, ℕ, ◌+◌, ◌<◌, ◌≤◌, List, [], ◌∷◌, ◌++◌, map, length, get_or, take, Err, sym, ap, ◌∙◌, subst, inl, inr, arith}
 use Rattle.std.proofs.lemmas.List.{append_assoc, append_cancel_left, length-append, flat_map_more, take_more}
 use Rattle.market.specs.Written.{Cell, shown, spaced_after}
 use Rattle.order_file.specs.Instructions.{instruction_verb, verb_word, values_of, texts, written, Fit}
@@ -18,14 +18,16 @@ free_append [] ys h g = g
 free_append (x ∷ xs) ys h g = (h.0, free_append xs ys h.1 g)
 
 spaced_free : (p : List ℕ) (ws : List Want) (fs : List Cell) → Free 10 p → Fills ws fs → Free 10 (spaced_after p (map shown fs))
-spaced_free p [] fs h g = rw g h
-spaced_free p (w ∷ ws) fs h g =
-    rw g.2 (free_append p (32 ∷ spaced_after (shown g.0) (map shown g.1)) h
-    ((λ e. omega arith), spaced_free (shown g.0) ws g.1 (meets_free 10 (inr refl) w g.0 g.3) g.4))
+spaced_free p [] [] h g = h
+spaced_free p [] (f ∷ fs) h g = absurd g
+spaced_free p (w ∷ ws) [] h g = absurd g
+spaced_free p (w ∷ ws) (f ∷ fs) h g =
+    free_append p (32 ∷ spaced_after (shown f) (map shown fs)) h
+    ((λ e. omega arith), spaced_free (shown f) ws fs (meets_free 10 (omega arith) w f g.0) g.1)
 
 -- no instruction's line has a line end in it
 pub line_free : (c : Instruction) → Fit c → Free 10 (written c)
-line_free c h = spaced_free (verb_word (instruction_verb c)) (wants (instruction_verb c)) (values_of c) (verb_free 10 (inr refl) (instruction_verb c)) (fills c h)
+line_free c h = spaced_free (verb_word (instruction_verb c)) (wants (instruction_verb c)) (values_of c) (verb_free 10 (omega arith) (instruction_verb c)) (fills c h)
 
 spaced_long : (p : List ℕ) (ps : List (List ℕ)) → length ps ≤ length (spaced_after p ps)
 spaced_long p [] = omega arith
