@@ -1,9 +1,8 @@
 -- The reader's moves, by its ways out of a step.
-use Rattle.std.proofs.Common.{◌≡◌, ℕ, ◌+◌, ◌<◌, List, [], ◌∷◌, ◌++◌, length, IsErrAnd, Some, None, Ok, Err, Option, Result, sym, refl, ap, ◌∙◌, subst, inl, inr, arith, Bor}
+use Rattle.std.proofs.Common.{◌≡◌, ℕ, ◌<◌, List, [], ◌∷◌, ◌++◌, length, IsErrAnd, Err, Option, Result, sym, refl, ap, ◌∙◌, subst, inr, arith, Bor}
 use Rattle.std.proofs.lemmas.List.{append_assoc, length-append}
 use Rattle.std.proofs.lemmas.Result.{err_from_is_err_and}
-use Rattle.order_file.specs.Faults.{bad_line, no_names}
-use Rattle.order_file.specs.Instructions.{written, Fit}
+use Rattle.order_file.specs.Faults.{no_names}
 use Rattle.order_file.specs.Lines.{Faults}
 use Rattle.order_file.specs.Files.{names, Begins, Moves}
 use Rattle.order_file.specs.declared.instructions.Instruction.{Instruction}
@@ -52,27 +51,16 @@ wrong_names k bs n i l t r f u m a b h g e =
     let q = subst (Begins bs) b h in
     rw (a, p.1) (refl, (λ v z. g.0 (one_way l.now names t.now v (free 10 l.now q.1) names_free (sym q.0 ∙ z ∙ single names v)).0), p.2 ∙ g.1)
 
-pub right_names : (k : Condition) (bs : List ℕ) (n : ℕ) (i : Line) (l t : Bor (List ℕ)) (to : Condition) (u : List ℕ) (m : ℕ)
-    → k ≡ BeforeNames → i ≡ Ended l t → Begins bs i → l.now ≡ names → to ≡ AmongValues → u ≡ t.now → m ≡ n + 1 → Moves k bs n (Ok None) to u m
-unfolding Moves
-right_names k bs n i l t to u m a b h e to_is u-is m-is =
-    let q = subst (Begins bs) b h in
-    rw a (to_is, q.0 ∙ ap (λ (x : List ℕ). x ++ 10 ∷ t.now) e ∙ sym (single names t.now) ∙ ap (λ (x : List ℕ). (names ++ 10 ∷ []) ++ x) (sym u-is), m-is)
+no_end : (bs : List ℕ) (i : Line) → Begins bs i → ((l t : Bor (List ℕ)) → i ≡ Ended l t → ⊥) → Free 10 bs
+no_end bs (Ended l t) h bad = absurd (bad l t refl)
+no_end bs Unended h bad = free 10 bs h.1
+no_end bs Absent h bad = rw h tt
 
-no_names_in : (bs u : List ℕ) → Free 10 bs → bs ≡ (names ++ 10 ∷ []) ++ u → ⊥
-no_names_in bs u h z = has_end names u (subst (Free 10) (z ∙ single names u) h)
-
-pub unended_names : (k : Condition) (bs : List ℕ) (n : ℕ) (i : Line) (r : Answer) (f : Fault) (to : Condition) (u : List ℕ) (m : ℕ)
-    → k ≡ BeforeNames → i ≡ Unended → Begins bs i → f ≡ no_names → r ≡ Err f → to ≡ Stopped → Moves k bs n r to u m
+pub no_line : (k : Condition) (bs : List ℕ) (n : ℕ) (i : Line) (r : Answer) (f : Fault) (to : Condition) (u : List ℕ) (m : ℕ)
+    → k ≡ BeforeNames → ((l t : Bor (List ℕ)) → i ≡ Ended l t → ⊥) → Begins bs i → f ≡ no_names → r ≡ Err f → to ≡ Stopped → Moves k bs n r to u m
 unfolding Moves
-unended_names k bs n i r f to u m a b h e r-is to_is =
-    rw (a, r-is) (to_is, (λ v z. no_names_in bs v (free 10 bs (subst (Begins bs) b h).1) z), e)
-
-pub absent_names : (k : Condition) (bs : List ℕ) (n : ℕ) (i : Line) (r : Answer) (f : Fault) (to : Condition) (u : List ℕ) (m : ℕ)
-    → k ≡ BeforeNames → i ≡ Absent → Begins bs i → f ≡ no_names → r ≡ Err f → to ≡ Stopped → Moves k bs n r to u m
-unfolding Moves
-absent_names k bs n i r f to u m a b h e r-is to_is =
-    rw (a, r-is) (to_is, (λ v z. no_names_in bs v (subst (Free 10) (sym (subst (Begins bs) b h)) tt) z), e)
+no_line k bs n i r f to u m a b h e r-is to_is =
+    rw (a, r-is) (to_is, (λ v z. has_end names v (subst (Free 10) (z ∙ single names v) (no_end bs i h b))), e)
 
 pub wrong_values : (k : Condition) (bs : List ℕ) (n : ℕ) (i : Line) (l t : Bor (List ℕ)) (r : Answer) (f : Fault) (u : List ℕ) (m : ℕ)
     → k ≡ AmongValues → i ≡ Ended l t → Begins bs i → Faults l.now n (Err f) → IsErrAnd r (λ y. y ≡ f) → Moves k bs n r Stopped u m
@@ -81,23 +69,3 @@ wrong_values k bs n i l t r f u m a b h g e =
     let p = err_from_is_err_and r e in
     let q = subst (Begins bs) b h in
     rw (a, p.1, p.2) (refl, omega (arith, shorter bs l.now t.now q.0), inr (l.now, t.now, q.0, q.1, g))
-
-pub right_values : (k : Condition) (bs : List ℕ) (n : ℕ) (i : Line) (l t : Bor (List ℕ)) (c : Instruction) (to : Condition) (u : List ℕ) (m : ℕ)
-    → k ≡ AmongValues → i ≡ Ended l t → Begins bs i → Fit c × (l.now ≡ written c) → to ≡ AmongValues → u ≡ t.now → m ≡ n + 1 → Moves k bs n (Ok (Some c)) to u m
-unfolding Moves
-right_values k bs n i l t c to u m a b h g to_is u-is m-is =
-    let q = subst (Begins bs) b h in
-    rw a (to_is, g.0, q.0 ∙ ap (λ (x : List ℕ). x ++ 10 ∷ t.now) g.1 ∙ ap (λ (x : List ℕ). written c ++ 10 ∷ x) (sym u-is), m-is)
-
-pub unended_values : (k : Condition) (bs : List ℕ) (n : ℕ) (i : Line) (r : Answer) (f : Fault) (to : Condition) (u : List ℕ) (m : ℕ)
-    → k ≡ AmongValues → i ≡ Unended → Begins bs i → f ≡ bad_line n → r ≡ Err f → to ≡ Stopped → Moves k bs n r to u m
-unfolding Moves
-unended_values k bs n i r f to u m a b h e r-is to_is = let q = subst (Begins bs) b h in rw (a, r-is) (to_is, q.0, inl (q.1, e))
-
-pub ended : (k : Condition) (bs : List ℕ) (n : ℕ) (i : Line) (m : ℕ) → k ≡ AmongValues → i ≡ Absent → Begins bs i → Moves k bs n (Ok None) Stopped bs m
-unfolding Moves
-ended k bs n i m a b h = let q = subst (Begins bs) b h in rw a (refl, q, q)
-
-pub stays : (k : Condition) (bs : List ℕ) (n m : ℕ) → k ≡ Stopped → Moves k bs n (Ok None) k bs m
-unfolding Moves
-stays k bs n m a = rw a (refl, refl)

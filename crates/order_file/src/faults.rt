@@ -131,8 +131,7 @@ impl fmt::Display for Cause {
     ghost output = { λ c. Some (decimal (cause_code c)) };
 
     fn fmt<W: fmt::Write>(&self, f: &mut fmt::Formatter<W>) -> fmt::Result {
-        let code = u32::from(*self);
-        write!(f, "{code}")
+        write!(f, "{}", u32::from(*self))
     }
 }
 

@@ -35,18 +35,18 @@ pub enum Field<'a> {
 // A type whose values are written as words.
 pub trait Word: Sized {
     // The word of each value.
-    ghost word: { Self → List ℕ };
+    ghost spelling: { Self → List ℕ };
 
-    // The value of the word that the bytes are.
+    // The value whose word the bytes are.
     fn of_bytes(bytes: &[u8]) -> Option<Self>
-        ensures { Reads (Spells word) bytes.now result };
+        ensures { Reads (Spells spelling) bytes.now result };
 
-    // Each begins above the digits, so that none is a number or a blank.
-    ghost letter: { (x : Self) → 57 < slice_index (word x) 0 };
+    // Each word begins above the digits, which end with 57, so that it is neither a number nor a blank.
+    ghost letter: { (x : Self) → 57 < slice_index (spelling x) 0 };
 }
 
 impl Word for Side {
-    ghost word = { side_word };
+    ghost spelling = { side_word };
 
     ghost letter = { Prim.search rules };
 
@@ -61,7 +61,7 @@ impl Word for Side {
 }
 
 impl Word for Kind {
-    ghost word = { kind_word };
+    ghost spelling = { kind_word };
 
     ghost letter = { Prim.search rules };
 
@@ -78,7 +78,7 @@ impl Word for Kind {
 }
 
 impl Word for Verb {
-    ghost word = { verb_word };
+    ghost spelling = { verb_word };
 
     ghost letter = { Prim.search rules };
 
@@ -137,7 +137,7 @@ impl<'a> Part<'a> {
     }
 
     pub fn word<W: Word>(self) -> Result<W, Fault>
-        ensures { Judged (Spells W.word) wrong_word self.entry result }
+        ensures { Judged (Spells W.spelling) wrong_word self.entry result }
     {
         match self.field() {
             Field::Word(bytes, place) => {

@@ -111,6 +111,7 @@ impl<'a> Reader<'a> {
         Err(fault)
     }
 
+    #[tactic(auto, unfolding(crate::specs::Files::Moves))]
     // Reads one line and moves on. A fault leaves the reader stopped.
     fn step(&mut self) -> Result<Option<Instruction>, Fault>
         ensures { Moves self.old.condition self.old.rest.now self.old.line result self.new.condition self.new.rest.now self.new.line }
@@ -124,8 +125,7 @@ impl<'a> Reader<'a> {
                 self.pass(rest);
                 Ok(None)
             }
-            (Condition::BeforeNames, Line::Unended) => self.stop(Fault::of_names()),
-            (Condition::BeforeNames, Line::Absent) => self.stop(Fault::of_names()),
+            (Condition::BeforeNames, Line::Unended | Line::Absent) => self.stop(Fault::of_names()),
             (Condition::AmongValues, Line::Ended(text, rest)) => {
                 self.condition = Condition::Stopped;
                 let instruction = read_line(text, line)?;

@@ -1,11 +1,10 @@
 // The writer of order files: a line for each instruction.
-ghost use Rattle.std.specs.Prelude.{◌≡◌, ℕ, ◌∷◌, ◌++◌, IfOk, Some, string_bytes, codes, decimal};
-ghost use Rattle.market.specs.Written.{kind_word};
+ghost use Rattle.std.specs.Prelude.{◌≡◌, IfOk, Some, string_bytes};
 ghost use Rattle.order_file.specs.Files.{text_of};
 ghost use Rattle.order_file.specs.Instructions.{written};
 
 use crate::instructions::Instruction;
-use market::types::{Kind, Quotation, Terms};
+use market::types::{Quotation, Terms};
 use std::alloc::{AllocError, Global};
 use std::fmt;
 
@@ -15,37 +14,36 @@ impl fmt::Display for Instruction {
 
     fn fmt<W: fmt::Write>(&self, f: &mut fmt::Formatter<W>) -> fmt::Result {
         match *self {
-            Instruction::Enter(side, terms) => {
-                let Terms {
+            Instruction::Enter(
+                side,
+                Terms {
                     price,
                     size,
                     show,
                     kind,
                     user,
-                } = terms;
-                write!(f, "enter {side} {price} {size} {show} {kind} {user} - -")
-            }
-            Instruction::Replace(terms, number) => {
-                let Terms {
+                },
+            ) => write!(f, "enter {side} {price} {size} {show} {kind} {user} - -"),
+            Instruction::Replace(
+                Terms {
                     price,
                     size,
                     show,
                     kind,
                     user,
-                } = terms;
-                write!(
-                    f,
-                    "replace - {price} {size} {show} {kind} {user} {number} -"
-                )
-            }
+                },
+                number,
+            ) => write!(
+                f,
+                "replace - {price} {size} {show} {kind} {user} {number} -"
+            ),
             Instruction::Cut { size, user, number } => write!(
                 f,
                 "cut - - {size} - - {user} {number} -"
             ),
             Instruction::Cancel { user, number } => write!(f, "cancel - - - - - {user} {number} -"),
             Instruction::Reply { size, number } => write!(f, "reply - - {size} - - - {number} -"),
-            Instruction::Quote(side, quotation) => {
-                let Quotation { venue, price, size } = quotation;
+            Instruction::Quote(side, Quotation { venue, price, size }) => {
                 write!(f, "quote {side} {price} {size} - - - - {venue}")
             }
             Instruction::Close => write!(f, "close - - - - - - - -"),
