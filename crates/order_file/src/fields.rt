@@ -154,8 +154,9 @@ impl<'a> Part<'a> {
     {
         match self.field() {
             Field::Blank(_, _) => Ok(()),
-            Field::Word(_, place) => Err(Fault::of_field(Cause::Misused, place)),
-            Field::Number(_, _, place) => Err(Fault::of_field(Cause::Misused, place)),
+            Field::Word(_, place) | Field::Number(_, _, place) => {
+                Err(Fault::of_field(Cause::Misused, place))
+            }
         }
     }
 }
