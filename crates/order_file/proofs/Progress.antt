@@ -1,15 +1,13 @@
 -- How far the reader of a file has come: what is kept from step to step.
-use Rattle.std.proofs.Common.{◌≡◌, ℕ, ◌+◌, ◌<◌, ◌≤◌, true, false, cond, List, [], ◌∷◌, ◌++◌, length, Some, None, Ok, Err, Option, sym, refl, ap, ◌∙◌, inl, inr, arith}
-use borrow.Author.Tests.{both_ways}
-use Rattle.std.proofs.lemmas.List.{append-nil, length-append}
+use Rattle.std.proofs.Common.{◌≡◌, ℕ, ◌+◌, ◌≤◌, cond, List, [], ◌∷◌, ◌++◌, length, Some, None, Ok, Err, Option, sym, ap, ◌∙◌, inl, inr, arith}
+use Rattle.std.proofs.lemmas.List.{length-append}
 use Rattle.order_file.specs.Instructions.{written}
 use Rattle.order_file.specs.Lines.{field_count}
-use Rattle.order_file.specs.Files.{names, lines_of, text_of, most_bytes, Fits, stopped, Moves, IsBadFile}
+use Rattle.order_file.specs.Files.{lines_of, text_of, most_bytes, Fits, stopped, Moves, IsBadFile}
 use Rattle.order_file.specs.declared.instructions.Instruction.{Instruction}
 use Rattle.order_file.specs.declared.faults.Fault.{Fault}
 use Rattle.order_file.specs.declared.reader.Condition.{Condition}
 use Rattle.order_file.specs.declared.reader.Condition.TheVariants.{BeforeNames, AmongValues, Stopped}
-use Rattle.order_file.proofs.Moves.{single}
 use Rattle.order_file.proofs.Texts.{line_long, not_text, fits_push, text_push}
 
 -- of the file bs the instructions cs are read, and t is left, from line n on
@@ -18,24 +16,7 @@ Progress bs BeforeNames t n cs = (t ≡ bs) × (n ≡ 1) × (cs ≡ [])
 Progress bs AmongValues t n cs = Fits cs × (bs ≡ text_of cs ++ t) × (n ≡ length cs + 2)
 Progress bs Stopped t n cs = Fits cs × (bs ≡ text_of cs)
 
-pub started : (bs : List ℕ) (k : Condition) (t : List ℕ) (n : ℕ) (cs : List Instruction) → k ≡ BeforeNames → t ≡ bs → n ≡ 1 → cs ≡ [] → Progress bs k t n cs
-unfolding Progress
-started bs k t n cs a e p q = rw a (e, p, q)
-
--- a line that gives no instruction
-pub passed : (bs : List ℕ) (k : Condition) (t : List ℕ) (n : ℕ) (cs : List Instruction) (o : Option Instruction) (to : Condition) (u : List ℕ) (m : ℕ)
-    → Progress bs k t n cs → Moves k t n (Ok o) to u m → o ≡ None → Progress bs to u m cs × (length u ≤ length t)
-unfolding Progress Moves
-passed bs k t n cs (Some c) to u m p v e = absurd (let z : ◌≡◌ {A = ℕ} 0 1 = cc in omega arith)
-passed bs BeforeNames t n cs None to u m p v e = (
-  (rw v.0 (rw p.2 tt, sym p.0 ∙ v.1 ∙ rw p.2 (ap (λ (x : List ℕ). x ++ u) (sym (append-nil (names ++ 10 ∷ [])))), omega (arith, v.2, p.1, ap length p.2))),
-  omega (arith, ap length v.1 ∙ length-append (names ++ 10 ∷ []) u),
-)
-passed bs AmongValues t n cs None to u m p v e =
-    ((rw v.0 (p.0, p.1 ∙ ap (λ (x : List ℕ). text_of cs ++ x) v.1 ∙ append-nil (text_of cs))), omega (arith, ap length v.2))
-passed bs Stopped t n cs None to u m p v e = (rw v.0 p, omega (arith, ap length v.1))
-
--- a line that gives one
+-- a line that gives an instruction
 pub added : (bs : List ℕ) (k : Condition) (t : List ℕ) (n : ℕ) (cs : List Instruction) (o : Option Instruction) (c : Instruction) (to : Condition) (u : List ℕ) (m : ℕ) (ds : List Instruction)
     → Progress bs k t n cs → Moves k t n (Ok o) to u m → o ≡ Some c → ds ≡ cs ++ c ∷ [] → Progress bs to u m ds
 unfolding Progress Moves
@@ -59,22 +40,6 @@ taken_off Stopped t n (Some d) c to u m v e = absurd v
 -- the steps that are left, at most
 abbrev pub steps_left : Condition → List ℕ → ℕ
 steps_left k t = length t + cond (stopped k) 0 1
-
-pub fewer : (k : Condition) (t : List ℕ) (n : ℕ) (o : Option Instruction) (to : Condition) (u : List ℕ) (m : ℕ) → stopped k ≡ false → Moves k t n (Ok o) to u m
-    → steps_left to u < steps_left k t
-unfolding Moves
-fewer BeforeNames t n None to u m s v = rw v.0 (omega (arith, ap length (v.1 ∙ single names u) ∙ length-append names (10 ∷ u)))
-fewer BeforeNames t n (Some c) to u m s v = absurd v
-fewer AmongValues t n None to u m s v = rw v.0 (omega (arith, ap length v.1, ap length v.2))
-fewer AmongValues t n (Some c) to u m s v = rw v.0 (omega (arith, ap length v.2 ∙ length-append (written c) (10 ∷ u)))
-fewer Stopped t n o to u m s v = absurd (both_ways true s refl)
-
--- the end, and a fault
-pub finished : (bs : List ℕ) (k : Condition) (t : List ℕ) (n : ℕ) (cs : List Instruction) → stopped k ≡ true → Progress bs k t n cs → Fits cs × (bs ≡ text_of cs)
-unfolding Progress
-finished bs BeforeNames t n cs s p = absurd (both_ways false refl s)
-finished bs AmongValues t n cs s p = absurd (both_ways false refl s)
-finished bs Stopped t n cs s p = p
 
 pub record Refused (bs : List ℕ) (f : Fault) : Type 0 where
   pub accepted : (cs : List Instruction) → length bs ≤ most_bytes → Fits cs → bs ≡ text_of cs → ⊥

@@ -1,6 +1,6 @@
 -- What a file that writes instructions looks like, line by line.
-use Rattle.std.proofs.Common.{◌≡◌, ℕ, ◌+◌, ◌<◌, ◌≤◌, List, [], ◌∷◌, ◌++◌, map, length, get_or, take, Err, sym, ap, ◌∙◌, subst, inl, inr, arith}
-use Rattle.std.proofs.lemmas.List.{append_assoc, append_cancel_left, length-append, flat_map_more, take_more}
+use Rattle.std.proofs.Common.{◌≡◌, ℕ, ◌+◌, ◌<◌, ◌≤◌, List, [], ◌∷◌, ◌++◌, map, length, take, Err, sym, ap, ◌∙◌, subst, inl, inr, arith}
+use Rattle.std.proofs.lemmas.List.{append_assoc, append_cancel_left, length-append, flat_map_more}
 use Rattle.market.specs.Written.{Cell, shown, spaced_after}
 use Rattle.order_file.specs.Instructions.{instruction_verb, verb_word, values_of, texts, written, Fit}
 use Rattle.order_file.specs.Fields.{Want}
@@ -89,6 +89,3 @@ pub text_push : (cs : List Instruction) (c : Instruction) (u : List ℕ) → tex
 text_push cs c u =
     let a : text_of cs ++ (written c ++ 10 ∷ u) ≡ (text_of cs ++ (written c ++ 10 ∷ [])) ++ u = simp append_assoc in
     a ∙ ap (λ (x : List ℕ). x ++ u) (flat_map_more (λ (x : Instruction). written x ++ 10 ∷ []) (names ++ 10 ∷ []) cs c)
-
-pub text_more : (cs : List Instruction) (i : ℕ) (d : Instruction) → i < length cs → text_of (take i cs) ++ (written (get_or cs i d) ++ 10 ∷ []) ≡ text_of (take (i + 1) cs)
-text_more cs i d l = flat_map_more (λ (x : Instruction). written x ++ 10 ∷ []) (names ++ 10 ∷ []) (take i cs) (get_or cs i d) ∙ ap text_of (sym (take_more cs i d l))

@@ -143,6 +143,7 @@ impl<'a> Reader<'a> {
 }
 
 // The instructions of an order file, or its first fault. All memory is taken at once, a place for each line that the file can have.
+#[tactic(auto, using(crate::proofs::Same::one_file_each), unfolding(crate::specs::Files::Moves, crate::proofs::Progress::Progress))]
 pub fn read(file: &[u8], heap: Global) -> Result<Vec<Instruction>, ReadError>
     ensures accepted { FileAccepted file.now result }
     ensures fault { FileFaults file.now result }

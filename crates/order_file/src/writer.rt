@@ -53,6 +53,7 @@ impl fmt::Display for Instruction {
 }
 
 // The file that writes the instructions.
+#[tactic(auto, unfolding(crate::specs::Files::names))]
 pub fn render(instructions: &[Instruction], heap: Global) -> Result<String, AllocError>
     ensures { IfOk result (λ s. string_bytes s ≡ text_of instructions.now) }
 {
