@@ -13,5 +13,5 @@ use Rattle.book.specs.Outcomes.{book_state}
 -- 3. book numbers used up: the house stays as it was
 abbrev pub Makes : House → House → ℕ → Result (Book × Ready) NotMade → Type 0
 Makes h h' first (Ok (book, pass)) = (book.id ≡ h.made + 1) × (pass.book ≡ h.made + 1) × (book_state book ≡ new_state first) × (h'.made ≡ h.made + 1)
-Makes h h' first (Err Memory) = h'.made ≡ h.made
+Makes h h' first (Err (Memory e)) = h'.made ≡ h.made
 Makes h h' first (Err BookNumbersUsedUp) = (h.made ≡ 4294967295) × (h'.made ≡ h.made)

@@ -1,5 +1,6 @@
 // The house, which gives each book that it makes a number of its own.
 ghost use Rattle.std.specs.Prelude.{◌≡◌, ◌+◌, ◌<◌};
+ghost use Rattle.book.specs.declared.house.NotMade.TheVariants.{Memory};
 ghost use Rattle.book.specs.Houses.{Makes};
 
 use crate::book::Book;
@@ -15,8 +16,16 @@ pub struct House {
 // Why no book is made.
 #[derive(Clone, Copy, PartialEq, Eq)]
 pub enum NotMade {
-    Memory,
+    Memory(AllocError),
     BookNumbersUsedUp,
+}
+
+impl From<AllocError> for NotMade {
+    ghost from_gives = { λ e why. why ≡ Memory e };
+
+    fn from(e: AllocError) -> NotMade {
+        NotMade::Memory(e)
+    }
 }
 
 impl House {
@@ -35,12 +44,8 @@ impl House {
             return Err(NotMade::BookNumbersUsedUp);
         }
         let id = self.made + 1;
-        match Book::make(heap, id, first) {
-            Ok(new) => {
-                self.made = id;
-                Ok(new)
-            }
-            Err(_) => Err(NotMade::Memory),
-        }
+        let new = Book::make(heap, id, first)?;
+        self.made = id;
+        Ok(new)
     }
 }
