@@ -1,7 +1,8 @@
 pub mod Boards
-pub mod Works
-pub mod Performs
-pub mod Quotes
 pub mod Laws
-pub mod Days
 pub mod Texts
+pub mod Notes
+pub mod Calls
+pub mod Works
+pub mod Quotes
+pub mod Days

@@ -3,22 +3,38 @@ use Rattle.std.proofs.Common.{◌≡◌, [], ◌∷◌, Some, None, Option, sym,
 use Rattle.market.specs.declared.types.Side.{Side}
 use Rattle.market.specs.declared.types.Quotation.{Quotation}
 use Rattle.market.specs.declared.types.Refusal.{Refusal}
-use Rattle.market.specs.States.{State, Quotes, quoted, put_quotes}
+use Rattle.market.specs.States.{quoted, put_quotes}
 use Rattle.market.specs.Reports.{refusal_number}
 use Rattle.market.specs.Quotes.{requoted}
-use Rattle.market.specs.Calls.{Pass}
-use Rattle.table_board.specs.Quoting.{quotation_refusal}
+use Rattle.table_board.specs.Quoting.{lists_of, quotation_refusal}
+use Rattle.book.specs.declared.book.Book.{Book}
+use Rattle.book.specs.Outcomes.{book_state}
+use Rattle.table_board.specs.declared.table.TableBoard.{TableBoard}
 use Rattle.order_file.specs.declared.instructions.Instruction.TheVariants.{Quote}
 use Rattle.replay.specs.Days.{refusal, Requotes}
 use Rattle.replay.specs.Records.{Noted}
-use Rattle.replay.specs.Desks.{Followed}
+use Rattle.replay.specs.Desks.{stage_pass, Followed}
+use Rattle.replay.specs.declared.desk.Stage.{Stage}
 use Rattle.replay.specs.declared.record.Record.{Record}
-use Rattle.replay.proofs.Works.{noted_none}
+use Rattle.replay.proofs.Notes.{noted_none}
 
-pub quote_refused : (d : Side) (x : Quotation) (why : Refusal) (s : State) (q q' : Quotes) (p : Pass) (r r' : Record) → quotation_refusal x ≡ Some why → q' ≡ q → Noted (refusal (refusal_number why) ∷ []) r r' → Followed (Quote d x) s q p s q' p r r'
-quote_refused d x why s q q' p r r' e eq n =
-    ([], refusal (refusal_number why) ∷ [], subst (λ (o : Option Refusal). Requotes d x o s q p [] (refusal (refusal_number why) ∷ []) s q' p) (sym e) (refl, refl, refl, eq, refl), n)
+module _ (d : Side) (x : Quotation) (b : Book) (t t' : TableBoard) (p : Stage) where
+  pub quote_refused : (why : Refusal) (r r' : Record) → quotation_refusal x ≡ Some why → lists_of t' ≡ lists_of t → Noted (refusal (refusal_number why) ∷ []) r r' → Followed (Quote d x) (record { book = b; board = t; log = r }) p (record { book = b; board = t'; log = r' }) p
+  quote_refused why r r' e eq n = record {
+    turns = [];
+    told = refusal (refusal_number why) ∷ [];
+    by_rule = subst (λ (o : Option Refusal). Requotes d x o (book_state b) (lists_of t) (stage_pass p) [] (refusal (refusal_number why) ∷ []) (book_state b) (lists_of t') (stage_pass p)) (sym e) (refl, refl, refl, eq, refl);
+    noted = n;
+    pass = refl;
+    id = refl;
+  }
 
-pub quote_accepted : (d : Side) (x : Quotation) (s : State) (q q' : Quotes) (p : Pass) (r : Record) → quotation_refusal x ≡ None → q' ≡ put_quotes d (requoted d x (quoted d q)) q → Followed (Quote d x) s q p s q' p r r
-quote_accepted d x s q q' p r e eq =
-    ([], [], subst (λ (o : Option Refusal). Requotes d x o s q p [] [] s q' p) (sym e) (refl, refl, refl, eq, refl), noted_none r)
+  pub quote_accepted : (r : Record) → quotation_refusal x ≡ None → lists_of t' ≡ put_quotes d (requoted d x (quoted d (lists_of t))) (lists_of t) → Followed (Quote d x) (record { book = b; board = t; log = r }) p (record { book = b; board = t'; log = r }) p
+  quote_accepted r e eq = record {
+    turns = [];
+    told = [];
+    by_rule = subst (λ (o : Option Refusal). Requotes d x o (book_state b) (lists_of t) (stage_pass p) [] [] (book_state b) (lists_of t') (stage_pass p)) (sym e) (refl, refl, refl, eq, refl);
+    noted = noted_none r;
+    pass = refl;
+    id = refl;
+  }

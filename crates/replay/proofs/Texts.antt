@@ -7,7 +7,7 @@ use Rattle.replay.specs.Sessions.{report_names, lines_text}
 use Rattle.market.specs.declared.types.Side.TheVariants.{Buy}
 use Rattle.market.specs.declared.types.What.TheVariants.{In}
 use Rattle.replay.specs.declared.record.Line.{Line}
-use Rattle.replay.specs.declared.record.Line.TheVariants.{Report}
+use Rattle.std.proofs.Common.{Ok}
 
 pub text_more : (xs : List Line) (i : ℕ) (d : Line) → i < length xs → lines_text (map told_of (take i xs)) ++ (told_text (told_of (get_or xs i d)) ++ 10 ∷ []) ≡ lines_text (map told_of (take (i + 1) xs))
 text_more xs i d h = flat_map_more (λ (t : Told). told_text t ++ 10 ∷ []) (report_names ++ 10 ∷ []) (map told_of (take i xs)) (told_of (get_or xs i d)) ∙ ap lines_text (sym (map_more told_of xs i d h))
@@ -17,4 +17,4 @@ text_on xs i d old new h e f = e ∙ ap (λ (bs : List ℕ). bs ++ (told_text (t
 
 -- the line that fills in past the end of a list, as the checker has it
 abbrev pub no_line : Line
-no_line = Report (record { what = In; number = 0; user = 0; side = Buy; price = 0; shares = 0 })
+no_line = record { 0 = Ok (record { what = In; number = 0; user = 0; side = Buy; price = 0; shares = 0 }) }

@@ -1,101 +1,87 @@
--- Steps of an order worked to its end, and what is noted of them.
-use Rattle.std.proofs.Common.{◌≡◌, ℕ, true, eqb, List, [], ◌∷◌, ◌++◌, Some, None, Option, sym, refl, ap, ◌∙◌, subst, append_assoc, arith}
-use Rattle.std.proofs.lemmas.Bool.{eq-eqb, cond-true}
+-- Steps of an order worked to its end.
+use Rattle.std.proofs.Common.{◌≡◌, true, List, [], ◌∷◌, ◌++◌, Some, None, Option, sym, refl, ap, ◌∙◌, subst, append_assoc}
+use Rattle.std.proofs.lemmas.Bool.{cond-true}
 use Rattle.market.specs.declared.types.Order.{Order}
-use Rattle.market.specs.declared.types.Report.{Report}
-use Rattle.market.specs.declared.types.Refusal.{Refusal}
 use Rattle.market.specs.declared.types.Call.TheVariants.{Work}
 use Rattle.market.specs.States.{State, Quotes, fits}
 use Rattle.market.specs.Steps.{step}
-use Rattle.market.specs.Calls.{Pass, ready, in_hand, reports, answer, refuse, held_by, stepped}
-use Rattle.book.specs.Outcomes.{own_call}
+use Rattle.market.specs.Calls.{Pass, in_hand, Outcome, held_by, stepped}
 use Rattle.laws.specs.Strings.{Turn}
-use Rattle.replay.specs.Days.{Told, report, turn, Finishes, idle, steps}
-use Rattle.replay.specs.Records.{Noted, record_of}
-use Rattle.replay.specs.Desks.{Finished}
-use Rattle.replay.specs.declared.record.Record.{Record}
-
--- what is noted in two parts
-pub noted_on : (l m : List Told) (r r' r'' : Record) → Noted l r r' → Noted m r' r'' → Noted (l ++ m) r r''
-noted_on l m r r' r'' f g w =
-    let b = g w in
-    let a = f b.0 in
-    (a.0, b.1 ∙ ap (λ x. x ++ m) a.1 ∙ append_assoc (record_of r) l m)
-
-pub noted_none : (r : Record) → Noted [] r r
-noted_none r w = (w, sym (append_nil' (record_of r)))
-  where
-    append_nil' : {X : Type 0} (xs : List X) → xs ++ [] ≡ xs
-    append_nil' [] = refl
-    append_nil' (x ∷ xs) = ap (λ l. x ∷ l) (append_nil' xs)
+use Rattle.table_board.specs.Quoting.{lists_of}
+use Rattle.book.specs.declared.passes.InHand.{InHand}
+use Rattle.book.specs.Outcomes.{book_state, id_of, hand_book, order_of}
+use Rattle.replay.specs.Days.{Told, tell, turn, Finishes, steps}
+use Rattle.replay.specs.Records.{Noted}
+use Rattle.replay.specs.Desks.{Held, held_working, MayWork, Follows}
+use Rattle.replay.specs.declared.desk.Desk.{Desk}
+use Rattle.replay.proofs.Notes.{noted_on, noted_none}
+use Rattle.replay.proofs.Calls.{Made, outcome_at, may_work}
 
 -- whatever finishes the order from here finishes it from the start, with what was told in between
-abbrev pub Onward : State → Quotes → Pass → Record → State → Quotes → Pass → Record → Type 0
-Onward s₀ q₀ p₀ r₀ s q p r =
-    (us : List Turn) × (m : List Told)
-    × ((ts : List Turn) (l : List Told) (s' : State) (q' : Quotes) (p' : Pass) → Finishes s q p ts l s' q' p' → Finishes s₀ q₀ p₀ (us ++ ts) (m ++ l) s' q' p')
-    × Noted m r₀ r
+pub record Onward (d₀ : Desk) (p₀ : Held) (d : Desk) (h : InHand) : Type 0 where
+  pub turns : List Turn
+  pub told : List Told
+  pub on : (ts : List Turn) (l : List Told) (s : State) (q : Quotes) (p : Pass) →
+      Finishes (book_state d.book) (lists_of d.board) (in_hand (order_of h)) ts l s q p →
+      Finishes (book_state d₀.book) (lists_of d₀.board) p₀.pass (turns ++ ts) (told ++ l) s q p
+  pub noted : Noted told d₀.log d.log
+  pub pass : hand_book h ≡ p₀.book
+  pub id : id_of d.book ≡ id_of d₀.book
+  pub may : MayWork d h
 
-pub onward_start : (s : State) (q : Quotes) (p : Pass) (r : Record) → Onward s q p r s q p r
-onward_start s q p r = ([], [], (λ ts l s' q' p' f. f), noted_none r)
+pub onward_start : (d : Desk) (h : InHand) → MayWork d h → Onward d (held_working h) d h
+onward_start d h may = record { turns = []; told = []; on = λ ts l s q p f. f; noted = noted_none d.log; pass = refl; id = refl; may = may }
 
--- a step with the book's own pass
-pub record Stepped (s s' : State) (q q' : Quotes) (o : Order) (rep : Report) (p' : Pass) : Type 0 where
-  pub number_fits : fits o.number s ≡ true
-  pub report_is : rep ≡ (step s q o).report
-  pub state_is : s' ≡ (step s q o).state
-  pub quotes_is : q' ≡ (step s q o).quotes
-  pub pass_is : p' ≡ held_by (step s q o).left
+module _ {d : Desk} (h : InHand) {d' : Desk} {p' : Held} (fit : fits (order_of h).number (book_state d.book) ≡ true) (m : Made Work d (held_working h) d' p') where
+  -- the step, since the number fits
+  pub outcome_is : outcome_at m.says d' p' ≡ stepped (step (book_state d.book) (lists_of d.board) (order_of h))
+  outcome_is = m.outcome ∙ cond-true (fits (order_of h).number (book_state d.book)) _ _ fit
 
-own_work : (a b : ℕ) (s : State) (q : Quotes) (o : Order) → a ≡ b → fits o.number s ≡ true → own_call (eqb a b) q Work s (in_hand o) ≡ stepped (step s q o)
-own_work a b s q o e f = cond-true (eqb a b) _ _ (eq-eqb a b e) ∙ cond-true (fits o.number s) _ _ f
+  step_first : (ts : List Turn) (l : List Told) (s : State) (q : Quotes) (p : Pass) →
+      Finishes (book_state d'.book) (lists_of d'.board) p'.pass ts l s q p →
+      Finishes (book_state d.book) (lists_of d.board) (in_hand (order_of h)) (turn (lists_of d.board) Work ∷ ts) (tell m.says ++ l) s q p
+  step_first ts l s q p = subst P (sym outcome_is) (λ f. steps (order_of h) fit f)
+    where
+      P : Outcome → Type 0
+      P o = Finishes o.state o.quotes o.pass ts l s q p → Finishes (book_state d.book) (lists_of d.board) (in_hand (order_of h)) (turn (lists_of d.board) Work ∷ ts) (tell o.says ++ l) s q p
 
-pub work_steps : (a b : ℕ) (s s' : State) (q q' : Quotes) (o : Order) (rep : Report) (p' : Pass) → a ≡ b → fits o.number s ≡ true → answer (rep ∷ []) s' q' p' ≡ own_call (eqb a b) q Work s (in_hand o) → Stepped s s' q q' o rep p'
-work_steps a b s s' q q' o rep p' e f h =
-    let g : answer (rep ∷ []) s' q' p' ≡ stepped (step s q o) = h ∙ own_work a b s q o e f in
-    record { number_fits = f; report_is = same (ap (λ z. z.says) g); state_is = ap (λ z. z.state) g; quotes_is = ap (λ z. z.quotes) g; pass_is = ap (λ z. z.pass) g }
-  where
-    same : reports (rep ∷ []) ≡ reports ((step s q o).report ∷ []) → rep ≡ (step s q o).report
-    same x = cc
+  module _ {d₀ : Desk} {p₀ : Held} (w : Onward d₀ p₀ d h) where
+    step_on : (ts : List Turn) (l : List Told) (s : State) (q : Quotes) (p : Pass) →
+        Finishes (book_state d'.book) (lists_of d'.board) p'.pass ts l s q p →
+        Finishes (book_state d₀.book) (lists_of d₀.board) p₀.pass ((w.turns ++ turn (lists_of d.board) Work ∷ []) ++ ts) ((w.told ++ tell m.says) ++ l) s q p
+    step_on ts l s q p f =
+        let all = w.on (turn (lists_of d.board) Work ∷ ts) (tell m.says ++ l) s q p (step_first ts l s q p f) in
+        subst (λ (x : List Turn). Finishes (book_state d₀.book) (lists_of d₀.board) p₀.pass x ((w.told ++ tell m.says) ++ l) s q p) (sym (append_assoc w.turns (turn (lists_of d.board) Work ∷ []) ts))
+        (subst (λ (x : List Told). Finishes (book_state d₀.book) (lists_of d₀.board) p₀.pass (w.turns ++ turn (lists_of d.board) Work ∷ ts) x s q p) (sym (append_assoc w.told (tell m.says) l)) all)
 
--- a step with the book's own pass is not refused
-pub work_accepted : (a b : ℕ) (s s' : State) (q q' : Quotes) (o : Order) (why : Refusal) (p' : Pass) → a ≡ b → fits o.number s ≡ true → refuse why s' q' p' ≡ own_call (eqb a b) q Work s (in_hand o) → ⊥
-work_accepted a b s s' q q' o why p' e f h =
-    let g : refuse why s' q' p' ≡ stepped (step s q o) = h ∙ own_work a b s q o e f in
-    let z : (refuse why s' q' p').says ≡ reports ((step s q o).report ∷ []) = ap (λ x. x.says) g in
-    let y : ◌≡◌ {A = ℕ} 0 1 = cc in omega arith
-
--- the order is done
-pub finished_done : (s₀ s s' : State) (q₀ q q' : Quotes) (p₀ : Pass) (r₀ r r' : Record) (o : Order) (rep : Report) → Onward s₀ q₀ p₀ r₀ s q (in_hand o) r → Stepped s s' q q' o rep ready → Noted (report rep ∷ []) r r' → Finished s₀ q₀ p₀ s' q' ready r₀ r'
-finished_done s₀ s s' q₀ q q' p₀ r₀ r r' o rep (us, m, f, n) w k =
-    let last : Finishes (step s q o).state (step s q o).quotes (held_by (step s q o).left) [] [] (step s q o).state (step s q o).quotes ready =
-    subst (λ (p : Pass). Finishes (step s q o).state (step s q o).quotes p [] [] (step s q o).state (step s q o).quotes ready) w.pass_is idle
-    in
-    let all : Finishes s₀ q₀ p₀ (us ++ turn q Work ∷ []) (m ++ report (step s q o).report ∷ []) (step s q o).state (step s q o).quotes ready = f _ _ _ _ _ (steps o w.number_fits last) in
-    let here : Finishes s₀ q₀ p₀ (us ++ turn q Work ∷ []) (m ++ report rep ∷ []) s' q' ready =
-    subst (λ (x : Report). Finishes s₀ q₀ p₀ (us ++ turn q Work ∷ []) (m ++ report x ∷ []) s' q' ready) (sym w.report_is)
-    (subst (λ (x : State). Finishes s₀ q₀ p₀ (us ++ turn q Work ∷ []) (m ++ report (step s q o).report ∷ []) x q' ready) (sym w.state_is)
-    (subst (λ (x : Quotes). Finishes s₀ q₀ p₀ (us ++ turn q Work ∷ []) (m ++ report (step s q o).report ∷ []) (step s q o).state x ready) (sym w.quotes_is) all))
-    in
-    (us ++ turn q Work ∷ [], m ++ report rep ∷ [], here, noted_on m (report rep ∷ []) r₀ r r' n k)
+    -- the order is done
+    pub finished : Follows Finishes d' p' d' p' → Follows Finishes d₀ p₀ d' p'
+    finished f = record {
+      turns = (w.turns ++ turn (lists_of d.board) Work ∷ []) ++ f.turns;
+      told = (w.told ++ tell m.says) ++ f.told;
+      by_rule = step_on f.turns f.told _ _ _ f.by_rule;
+      noted = noted_on (w.told ++ tell m.says) f.told d₀.log d'.log d'.log (noted_on w.told (tell m.says) d₀.log d.log d'.log w.noted m.noted) f.noted;
+      pass = m.pass ∙ w.pass;
+      id = m.id ∙ w.id;
+    }
 
 -- shares are left in hand
-pub onward_more : (s₀ s s' : State) (q₀ q q' : Quotes) (p₀ : Pass) (r₀ r r' : Record) (o o' : Order) (rep : Report) → Onward s₀ q₀ p₀ r₀ s q (in_hand o) r → Stepped s s' q q' o rep (in_hand o') → Noted (report rep ∷ []) r r' → Onward s₀ q₀ p₀ r₀ s' q' (in_hand o') r'
-onward_more s₀ s s' q₀ q q' p₀ r₀ r r' o o' rep (us, m, f, n) w k = (us ++ turn q Work ∷ [], m ++ report rep ∷ [], on, noted_on m (report rep ∷ []) r₀ r r' n k)
-  where
-    back : (ts : List Turn) (l : List Told) (z : State) (x : Quotes) (p : Pass) → Finishes s' q' (in_hand o') ts l z x p → Finishes (step s q o).state (step s q o).quotes (held_by (step s q o).left) ts l z x p
-    back ts l z x p g =
-        subst (λ (y : Pass). Finishes (step s q o).state (step s q o).quotes y ts l z x p) w.pass_is
-        (subst (λ (y : Quotes). Finishes (step s q o).state y (in_hand o') ts l z x p) w.quotes_is (subst (λ (y : State). Finishes y q' (in_hand o') ts l z x p) w.state_is g))
+module _ {d₀ : Desk} {p₀ : Held} {d : Desk} (h : InHand) {d' : Desk} (h' : InHand) (w : Onward d₀ p₀ d h) (m : Made Work d (held_working h) d' (held_working h')) where
+  pub onward : Onward d₀ p₀ d' h'
+  onward = record {
+    turns = w.turns ++ turn (lists_of d.board) Work ∷ [];
+    told = w.told ++ tell m.says;
+    on = step_on h w.may.fit m w;
+    noted = noted_on w.told (tell m.says) d₀.log d.log d'.log w.noted m.noted;
+    pass = m.pass ∙ w.pass;
+    id = m.id ∙ w.id;
+    may = may_work Work d (held_working h) h' m w.may.own (h.fit, w.may.fit);
+  }
 
-    on : (ts : List Turn) (l : List Told) (z : State) (x : Quotes) (p : Pass) → Finishes s' q' (in_hand o') ts l z x p → Finishes s₀ q₀ p₀ ((us ++ turn q Work ∷ []) ++ ts) ((m ++ report rep ∷ []) ++ l) z x p
-    on ts l z x p g =
-        let all : Finishes s₀ q₀ p₀ (us ++ turn q Work ∷ ts) (m ++ report (step s q o).report ∷ l) z x p = f _ _ _ _ _ (steps o w.number_fits (back ts l z x p g)) in
-        subst (λ (y : List Turn). Finishes s₀ q₀ p₀ y ((m ++ report rep ∷ []) ++ l) z x p) (sym (append_assoc us (turn q Work ∷ []) ts))
-        (subst (λ (y : List Told). Finishes s₀ q₀ p₀ (us ++ turn q Work ∷ ts) y z x p) (sym (append_assoc m (report rep ∷ []) l))
-        (subst (λ (y : Report). Finishes s₀ q₀ p₀ (us ++ turn q Work ∷ ts) (m ++ report y ∷ l) z x p) (sym w.report_is) all))
-
--- what is left in hand is what the step left
-pub left_is : (l : Option Order) (o : Order) → in_hand o ≡ held_by l → Some o ≡ l
-left_is None o e = let y : ◌≡◌ {A = ℕ} 0 1 = cc in absurd (omega arith)
-left_is (Some x) o e = let same : o ≡ x = cc in ap Some same
+  -- what is left in hand is what the step left
+  pub left_is : Some (order_of h') ≡ (step (book_state d.book) (lists_of d.board) (order_of h)).left
+  left_is = held (step (book_state d.book) (lists_of d.board) (order_of h)).left (ap (λ o. o.pass) (outcome_is h w.may.fit m))
+    where
+      held : (l : Option Order) → in_hand (order_of h') ≡ held_by l → Some (order_of h') ≡ l
+      held None e = cc
+      held (Some x) e = let same : order_of h' ≡ x = cc in ap Some same

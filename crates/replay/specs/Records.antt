@@ -1,27 +1,29 @@
 -- The record's lines, what they tell, and how they are written.
-use Rattle.std.specs.Prelude.{◌≡◌, ℕ, Bool, true, List, ◌++◌, map, vec_items}
+use Rattle.std.specs.Prelude.{◌≡◌, ℕ, List, ◌++◌, map, Ok, Err, Result, IfOk, IsOkAnd}
+use Rattle.market.specs.declared.types.Report.{Report}
+use Rattle.market.specs.declared.types.Refusal.{Refusal}
 use Rattle.market.specs.Reports.{refusal_number}
 use Rattle.market.specs.Written.{report_line, refusal_line}
 use Rattle.replay.specs.Days.{Told, report, refusal}
 use Rattle.replay.specs.declared.record.Line.{Line}
-use Rattle.replay.specs.declared.record.Line.TheVariants.{Report, Refused}
 use Rattle.replay.specs.declared.record.Record.{Record}
 
+abbrev pub told_in : Result Report Refusal → Told
+told_in (Ok r) = report r
+told_in (Err why) = refusal (refusal_number why)
+
 abbrev pub told_of : Line → Told
-told_of (Report r) = report r
-told_of (Refused why) = refusal (refusal_number why)
+told_of l = told_in l.0
 
 -- a line of the record, without its end
 abbrev pub told_text : Told → List ℕ
 told_text (report r) = report_line r
 told_text (refusal n) = refusal_line n
 
-abbrev pub record_of : Record → List Told
-record_of r = map told_of (vec_items r.lines)
+-- a record that has its lines tells this
+abbrev pub Tells : Record → List Told → Type 0
+Tells r l = IfOk r.lines (λ v. map told_of v.items ≡ l)
 
-abbrev pub whole_of : Record → Bool
-whole_of r = r.whole
-
--- lines added: a record that is whole afterwards was whole before, and has them at its end
+-- lines added: a record that has its lines afterwards had them before, and has these at their end
 abbrev pub Noted : List Told → Record → Record → Type 0
-Noted l r r' = whole_of r' ≡ true → (whole_of r ≡ true) × (record_of r' ≡ record_of r ++ l)
+Noted l r r' = IfOk r'.lines (λ v'. IsOkAnd r.lines (λ v. map told_of v'.items ≡ map told_of v.items ++ l))

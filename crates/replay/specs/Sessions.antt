@@ -1,5 +1,5 @@
 -- A session: what an order file's instructions lead to, and the text that is printed of it.
-use Rattle.std.specs.Prelude.{◌≡◌, ℕ, ◌≤◌, true, ◌⊎◌, List, [], ◌∷◌, ◌++◌, map, length, codes}
+use Rattle.std.specs.Prelude.{◌≡◌, ℕ, ◌≤◌, ◌⊎◌, List, [], ◌∷◌, ◌++◌, map, length, codes}
 use Rattle.std.specs.List.{flat_map}
 use Rattle.market.specs.States.{State, Quotes, new_state, no_quotes}
 use Rattle.market.specs.Calls.{Pass, ready}
@@ -11,7 +11,7 @@ use Rattle.laws.specs.Strings.{Turn}
 use Rattle.replay.specs.Days.{Told, Day}
 use Rattle.replay.specs.Laws.{Lawful}
 use Rattle.book.specs.Outcomes.{book_state}
-use Rattle.replay.specs.Records.{told_of, told_text, record_of, whole_of}
+use Rattle.replay.specs.Records.{told_of, told_text, Tells}
 use Rattle.replay.specs.Desks.{stage_pass}
 use Rattle.replay.specs.declared.day.DayRun.{DayRun}
 use Rattle.replay.specs.declared.record.Line.{Line}
@@ -38,7 +38,7 @@ pub record EndsWith (is : List Instruction) (told : List Told) (book : State) (p
 
 -- a day that has been run: the book and the pass that it ends with, and what was noted of it while there was memory
 abbrev pub Ran : List Instruction → DayRun → Type 0
-Ran is d = (told : List Told) × EndsWith is told (book_state d.book) (stage_pass d.stage) × (whole_of d.log ≡ true → record_of d.log ≡ told)
+Ran is d = (told : List Told) × EndsWith is told (book_state d.book) (stage_pass d.stage) × Tells d.log told
 
 -- the names line of the record, without its end
 unfoldable pub report_names : List ℕ

@@ -1,61 +1,56 @@
 // The record of a day: its reports and refusals, in the order in which they came.
-ghost use Rattle.std.specs.Prelude.{◌≡◌, true, [], ◌∷◌, ◌++◌, map, IfOk, Some};
-ghost use Rattle.replay.specs.Records.{told_of, told_text, record_of, whole_of, Noted};
+ghost use Rattle.std.specs.Prelude.{◌≡◌, [], ◌∷◌, IsOkAnd, Some};
+ghost use Rattle.replay.specs.Records.{told_of, told_text, Tells, Noted};
 
-use crate::day::NoMemory;
 use market::types::{Refusal, Report};
-use std::alloc::Global;
+use std::alloc::{AllocError, Global};
 use std::fmt;
 
-// One line of the record.
+// One line of the record: a report, or why a call or a quote was refused.
 #[derive(Clone, Copy)]
-pub enum Line {
-    Report(Report),
-    Refused(Refusal),
-}
+pub struct Line(pub Result<Report, Refusal>);
 
 impl fmt::Display for Line {
     ghost output = { λ l. Some (told_text (told_of l)) };
 
     fn fmt<W: fmt::Write>(&self, f: &mut fmt::Formatter<W>) -> fmt::Result {
-        match self {
-            Line::Report(r) => write!(f, "{r}"),
-            Line::Refused(why) => write!(f, "{why}"),
+        match self.0 {
+            Ok(report) => write!(f, "{report}"),
+            Err(why) => write!(f, "{why}"),
         }
     }
 }
 
-// The lines so far. Trading goes on where memory for them is wanting, and the record is then not whole.
+// The lines so far, or the failure that ended them: trading goes on where memory for them is wanting.
 #[derive(Drop)]
 pub struct Record {
-    pub(crate) lines: Vec<Line>,
-    pub(crate) whole: bool,
+    pub(crate) lines: Result<Vec<Line>, AllocError>,
 }
 
 impl Record {
     pub fn new(heap: Global) -> Record
-        ensures { (record_of result ≡ []) × (whole_of result ≡ true) }
+        ensures { IsOkAnd result.lines (λ v. v.items ≡ []) }
     {
         Record {
-            lines: Vec::new(heap),
-            whole: true,
+            lines: Ok(Vec::new(heap)),
         }
     }
 
-    // Adds a line.
+    // Adds a line, unless the record has ended or ends here.
     pub fn note(&mut self, line: Line)
         ensures { Noted (told_of line ∷ []) self.old self.new }
     {
-        if self.lines.push(line).is_err() {
-            self.whole = false;
+        if let Ok(lines) = &mut self.lines {
+            if let Err(refused) = lines.push(line) {
+                self.lines = Err(refused.into());
+            }
         }
     }
 
-    // The lines, if the record is whole.
-    pub fn finish(self) -> Result<Vec<Line>, NoMemory>
-        ensures { IfOk result (λ v. (whole_of self ≡ true) × (map told_of v.items ≡ record_of self)) }
+    // The lines, if there was memory for them all.
+    pub fn finish(self) -> Result<Vec<Line>, AllocError>
+        ensures { result ≡ self.lines }
     {
-        let Record { lines, whole } = self;
-        if whole { Ok(lines) } else { Err(NoMemory) }
+        self.lines
     }
 }

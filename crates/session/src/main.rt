@@ -10,10 +10,8 @@ use std::process::ExitCode;
 
 fn run(rt: &HostRuntime) -> anyhow::Result<()> {
     let file = order_file(rt)?;
-    match replay(file.as_slice(), rt.alloc()) {
-        Ok(text) => Ok(rt.print(text.as_str())?),
-        Err(_) => Err(anyhow!("there is not enough memory")),
-    }
+    let text = replay(&file, rt.alloc()).map_err(|_| anyhow!("there is not enough memory"))?;
+    Ok(rt.print(&text)?)
 }
 
 fn main(rt: HostRuntime) -> ExitCode {

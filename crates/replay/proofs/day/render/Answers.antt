@@ -11,7 +11,7 @@ loop-line-init c = let e = c.in_ok-push_str.ensures.bytes in e ∙ rw c.new-out.
 
 pub loop-line-preserved : goal.loop-line-preserved
 loop-line-preserved c =
-    text_on c.args.lines.now c.loop-line.line-index no_line (string_bytes c.loop-line.out) (string_bytes c.write.new.self) c.loop-line-test.true c.in-Ok.ensures.bytes c.loop-line.invariant
+    text_on c.args.lines.now c.loop-line.line-index no_line (string_bytes c.loop-line.out) (string_bytes c.writeln.new.self) c.loop-line-test.true c.in_ok-writeln.ensures.bytes c.loop-line.invariant
 
 pub returns : goal.returns
 returns c = c.loop-line.invariant ∙ ap (λ xs. lines_text (map told_of xs)) (take_all c.loop-line.line-index c.args.lines.now c.loop-line-test.false)

@@ -1,0 +1,110 @@
+-- A call of the book with its own pass, made at a desk: what it says is noted, and the order that it takes in hand is worked to its end.
+use Rattle.std.proofs.Common.{◌≡◌, eqb, [], ◌∷◌, ◌++◌, Ok, Err, Result, sym, refl, ◌∙◌, subst}
+use Rattle.std.proofs.lemmas.Bool.{eq-eqb, cond-true}
+use Rattle.market.specs.declared.types.Call.{Call}
+use Rattle.market.specs.declared.types.Report.{Report}
+use Rattle.market.specs.declared.types.Refusal.{Refusal}
+use Rattle.market.specs.Calls.{in_hand, Says, reports, refused, Outcome, answer, refuse, call}
+use Rattle.market.specs.Reports.{refusal_number}
+use Rattle.soundness.specs.Kept.{Bearable}
+use Rattle.soundness.proofs.Kept.{sound_kept_lem}
+use Rattle.table_board.specs.Quoting.{lists_of}
+use Rattle.book.specs.declared.passes.InHand.{InHand}
+use Rattle.book.specs.declared.passes.Next.{Next}
+use Rattle.book.specs.Outcomes.{book_state, id_of, own_call, order_of, reported_as, next_pass, next_book}
+use Rattle.replay.specs.Days.{report, refusal, tell, turn, Finishes, idle, over, Performs, performs}
+use Rattle.replay.specs.Records.{told_in, Noted}
+use Rattle.replay.specs.Desks.{Held, held_between, held_working, MayWork, stage_pass, Follows}
+use Rattle.market.specs.declared.types.Refusal.TheVariants.{NoPass}
+use Rattle.replay.specs.declared.record.Record.{Record}
+use Rattle.replay.specs.declared.desk.Desk.{Desk}
+use Rattle.replay.specs.declared.desk.Stage.{Stage}
+use Rattle.replay.specs.declared.desk.Stage.TheVariants.{Open, Over}
+use Rattle.replay.proofs.Boards.{table_shown}
+use Rattle.replay.proofs.Notes.{noted_on, noted_none}
+
+-- the pass that comes back of a reply or a step
+abbrev pub held_next : Next → Held
+held_next n = record { pass = next_pass n; book = next_book n }
+
+-- what a call leaves of a desk and a pass
+abbrev pub outcome_at : Says → Desk → Held → Outcome
+outcome_at x d p = record { says = x; state = book_state d.book; quotes = lists_of d.board; pass = p.pass }
+
+-- a call made with the book's own pass, and noted
+pub record Made (c : Call) (d : Desk) (p : Held) (d' : Desk) (p' : Held) : Type 0 where
+  pub says : Says
+  pub outcome : outcome_at says d' p' ≡ call (lists_of d.board) c (book_state d.book) p.pass
+  pub noted : Noted (tell says) d.log d'.log
+  pub pass : p'.book ≡ p.book
+  pub id : id_of d'.book ≡ id_of d.book
+
+-- what the book promises of a call, at a desk
+pub made : {c : Call} {d : Desk} {p : Held} {d' : Desk} {p' : Held} (x : Says) →
+    p.book ≡ id_of d.book →
+    outcome_at x d' p' ≡ own_call (eqb p.book (id_of d.book)) (lists_of d.board) c (book_state d.book) p.pass →
+    p'.book ≡ p.book →
+    id_of d'.book ≡ id_of d.book →
+    Noted (tell x) d.log d'.log →
+    Made c d p d' p'
+made {c = c} {d = d} {p = p} x own e b i n =
+    record { says = x; outcome = e ∙ cond-true (eqb p.book (id_of d.book)) _ _ (eq-eqb p.book (id_of d.book) own); noted = n; pass = b; id = i }
+
+-- the same of a reply or a step that is not refused, once it is known what comes back
+pub made_next : {c : Call} {d : Desk} {p : Held} {d' : Desk} (rep : Report) (next n : Next) →
+    p.book ≡ id_of d.book →
+    answer (rep ∷ []) (book_state d'.book) (lists_of d'.board) (next_pass next) ≡ own_call (eqb p.book (id_of d.book)) (lists_of d.board) c (book_state d.book) p.pass →
+    next_book next ≡ p.book →
+    id_of d'.book ≡ id_of d.book →
+    Noted (report rep ∷ []) d.log d'.log →
+    next ≡ n →
+    Made c d p d' (held_next n)
+made_next {c = c} {d = d} {p = p} {d' = d'} rep next n own e b i k is =
+    let m : Made c d p d' (held_next next) = made (reports (rep ∷ [])) own e b i k in subst (λ z. Made c d p d' (held_next z)) is m
+
+-- the order in hand is worked to its end after it
+pub and_finished : {c : Call} {d : Desk} {p : Held} {d₁ : Desk} {p₁ : Held} {d' : Desk} {p' : Held} → Made c d p d₁ p₁ → Follows Finishes d₁ p₁ d' p' → Follows (Performs c) d p d' p'
+and_finished {c = c} {d = d} {p = p} {d₁ = d₁} {d' = d'} {p' = p'} m f = record {
+  turns = turn (lists_of d.board) c ∷ f.turns;
+  told = tell m.says ++ f.told;
+  by_rule = subst P (sym m.outcome) (λ g. performs g) f.by_rule;
+  noted = noted_on (tell m.says) f.told d.log d₁.log d'.log m.noted f.noted;
+  pass = f.pass ∙ m.pass;
+  id = f.id ∙ m.id;
+}
+  where
+    P : Outcome → Type 0
+    P o = Finishes o.state o.quotes o.pass f.turns f.told (book_state d'.book) (lists_of d'.board) p'.pass → Performs c (book_state d.book) (lists_of d.board) p.pass (turn (lists_of d.board) c ∷ f.turns) (tell o.says ++ f.told) (book_state d'.book) (lists_of d'.board) p'.pass
+
+-- no order is in hand
+pub nothing_left : (d : Desk) (p : Stage) → Follows Finishes d (held_between p) d (held_between p)
+nothing_left d (Open p) = record { turns = []; told = []; by_rule = idle; noted = noted_none d.log; pass = refl; id = refl }
+nothing_left d (Over p) = record { turns = []; told = []; by_rule = over; noted = noted_none d.log; pass = refl; id = refl }
+
+pub at_once : {c : Call} {d : Desk} {p : Held} {d' : Desk} (p' : Stage) → Made c d p d' (held_between p') → Follows (Performs c) d p d' (held_between p')
+at_once {d' = d'} p' m = and_finished m (nothing_left d' p')
+
+-- what comes back in hand may be worked
+pub may_work : (c : Call) (d : Desk) (p : Held) {d' : Desk} (h : InHand) → Made c d p d' (held_working h) → p.book ≡ id_of d.book → Bearable p.pass (book_state d.book) → MayWork d' h
+may_work c d p {d' = d'} h m own b =
+    let kept = (sound_kept_lem (lists_of d.board) c (book_state d.book) p.pass (table_shown d.board) d.book.orders.sound b).1 in
+    let k : Bearable (in_hand (order_of h)) (book_state d'.book) = subst (λ (o : Outcome). Bearable o.pass o.state) (sym m.outcome) kept in
+    record { own = m.pass ∙ own ∙ sym m.id; fit = k.1 }
+
+-- a call that borrows its pass
+abbrev pub said_in : Result Report Refusal → Says
+said_in (Ok r) = reports (r ∷ [])
+said_in (Err why) = refused (refusal_number why)
+
+pub borrowed : {c : Call} {d : Desk} {d' : Desk} (p : Stage) (x : Result Report Refusal) →
+    (held_between p).book ≡ id_of d.book →
+    reported_as (stage_pass p) x (book_state d'.book) (lists_of d'.board) ≡ own_call (eqb (held_between p).book (id_of d.book)) (lists_of d.board) c (book_state d.book) (stage_pass p) →
+    id_of d'.book ≡ id_of d.book →
+    Noted (told_in x ∷ []) d.log d'.log →
+    Follows (Performs c) d (held_between p) d' (held_between p)
+borrowed p (Ok r) own e i n = at_once p (made (said_in (Ok r)) own e refl i n)
+borrowed p (Err why) own e i n = at_once p (made (said_in (Err why)) own e refl i n)
+
+-- a call for which the program has no pass
+pub no_pass : (c : Call) (d : Desk) (p : Stage) (r : Record) → call (lists_of d.board) c (book_state d.book) (stage_pass p) ≡ refuse NoPass (book_state d.book) (lists_of d.board) (stage_pass p) → Noted (refusal 47 ∷ []) d.log r → Follows (Performs c) d (held_between p) (record { book = d.book; board = d.board; log = r }) (held_between p)
+no_pass c d p r e n = at_once p (record { says = refused 47; outcome = sym e; noted = n; pass = refl; id = refl })
