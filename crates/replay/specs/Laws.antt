@@ -1,5 +1,6 @@
 -- The laws of the book, as they hold for one session: of its own turns, and so of the reports in its own record.
-use Rattle.std.specs.Prelude.{◌≡◌, ℕ, ◌+◌, ◌*◌, List, [], ◌∷◌, ◌++◌}
+use Rattle.std.specs.Prelude.{◌≡◌, ℕ, ◌+◌, ◌*◌, List, [], ◌∷◌, ◌++◌, Some, None, Option, filter_map}
+use Rattle.std.specs.List.{flat_map}
 use Rattle.market.specs.declared.types.Report.{Report}
 use Rattle.market.specs.declared.types.What.{What}
 use Rattle.market.specs.declared.types.What.TheVariants.{In, Trade, Sent, Rest, Off, Back}
@@ -11,11 +12,14 @@ use Rattle.laws.specs.Conserve.{resting, sent_out, shares_in_hand, trade_shares,
 use Rattle.laws.specs.Priority.{Stays, latecomers, InList}
 use Rattle.replay.specs.Days.{Told, report, refusal}
 
+-- the report that a line tells, if any
+abbrev pub report_told : Told → Option Report
+report_told (report r) = Some r
+report_told (refusal n) = None
+
 -- the reports of a record, in order; its refusals are left out
 abbrev pub reports_told : List Told → List Report
-reports_told [] = []
-reports_told (report r ∷ l) = r ∷ reports_told l
-reports_told (refusal n ∷ l) = reports_told l
+reports_told = filter_map report_told
 
 -- the reports of what calls say, in order
 abbrev pub reports_of : Says → List Report
@@ -23,8 +27,7 @@ reports_of (reports rs) = rs
 reports_of (refused n) = []
 
 abbrev pub reports_said : List Says → List Report
-reports_said [] = []
-reports_said (x ∷ xs) = reports_of x ++ reports_said xs
+reports_said = flat_map reports_of
 
 -- the book and the pass after calls on the session's new book, and the reports that they give
 abbrev pub book_after : List Turn → State
