@@ -55,11 +55,6 @@ abbrev pub or_else : Option Refusal → Option Refusal → Option Refusal
 or_else (Some why) o = Some why
 or_else None o = o
 
--- what a check answers
-abbrev pub verdict : Option Refusal → Result (Unit {0}) Refusal
-verdict None = Ok tt
-verdict (Some why) = Err why
-
 abbrev pub checked : Option Refusal → State → Quotes → Pass → Outcome → Outcome
 checked (Some why) s q p o = refuse why s q p
 checked None s q p o = o

@@ -14,7 +14,7 @@ use Rattle.book.specs.declared.passes.Next.{Next}
 use Rattle.book.specs.Outcomes.{book_state, id_of, own_call, order_of, reported_as, next_pass, next_book}
 use Rattle.replay.specs.Days.{report, refusal, tell, turn, Finishes, idle, over, Performs, performs}
 use Rattle.replay.specs.Records.{told_in, Noted}
-use Rattle.replay.specs.Desks.{Held, held_between, held_working, MayWork, stage_pass, Follows}
+use Rattle.replay.specs.Desks.{Held, held_between, held_working, MayWork, stage_pass, stage_book, Follows}
 use Rattle.market.specs.declared.types.Refusal.TheVariants.{NoPass}
 use Rattle.replay.specs.declared.record.Record.{Record}
 use Rattle.replay.specs.declared.desk.Desk.{Desk}
@@ -84,6 +84,16 @@ nothing_left d (Over p) = record { turns = []; told = []; by_rule = over; noted 
 pub at_once : {c : Call} {d : Desk} {p : Held} {d' : Desk} (p' : Stage) → Made c d p d' (held_between p') → Follows (Performs c) d p d' (held_between p')
 at_once {d' = d'} p' m = and_finished m (nothing_left d' p')
 
+-- a call that is refused: the pass p comes back
+pub turned_down : {c : Call} {d : Desk} {p₀ : Held} {d' : Desk} (p : Stage) (why : Refusal) →
+    p₀.book ≡ id_of d.book →
+    refuse why (book_state d'.book) (lists_of d'.board) (stage_pass p) ≡ own_call (eqb p₀.book (id_of d.book)) (lists_of d.board) c (book_state d.book) p₀.pass →
+    stage_book p ≡ p₀.book →
+    id_of d'.book ≡ id_of d.book →
+    Noted (refusal (refusal_number why) ∷ []) d.log d'.log →
+    Follows (Performs c) d p₀ d' (held_between p)
+turned_down p why own e b i n = at_once p (made (refused (refusal_number why)) own e b i n)
+
 -- what comes back in hand may be worked
 pub may_work : (c : Call) (d : Desk) (p : Held) {d' : Desk} (h : InHand) → Made c d p d' (held_working h) → p.book ≡ id_of d.book → Bearable p.pass (book_state d.book) → MayWork d' h
 may_work c d p {d' = d'} h m own b =
@@ -92,18 +102,14 @@ may_work c d p {d' = d'} h m own b =
     record { own = m.pass ∙ own ∙ sym m.id; fit = k.1 }
 
 -- a call that borrows its pass
-abbrev pub said_in : Result Report Refusal → Says
-said_in (Ok r) = reports (r ∷ [])
-said_in (Err why) = refused (refusal_number why)
-
-pub borrowed : {c : Call} {d : Desk} {d' : Desk} (p : Stage) (x : Result Report Refusal) →
-    (held_between p).book ≡ id_of d.book →
-    reported_as (stage_pass p) x (book_state d'.book) (lists_of d'.board) ≡ own_call (eqb (held_between p).book (id_of d.book)) (lists_of d.board) c (book_state d.book) (stage_pass p) →
+pub borrowed : {c : Call} {d d' : Desk} (p : Stage) (x : Result Report Refusal) →
+    stage_book p ≡ id_of d.book →
+    reported_as (stage_pass p) x (book_state d'.book) (lists_of d'.board) ≡ own_call (eqb (stage_book p) (id_of d.book)) (lists_of d.board) c (book_state d.book) (stage_pass p) →
     id_of d'.book ≡ id_of d.book →
     Noted (told_in x ∷ []) d.log d'.log →
     Follows (Performs c) d (held_between p) d' (held_between p)
-borrowed p (Ok r) own e i n = at_once p (made (said_in (Ok r)) own e refl i n)
-borrowed p (Err why) own e i n = at_once p (made (said_in (Err why)) own e refl i n)
+borrowed p (Ok r) own e i n = at_once p (made (reports (r ∷ [])) own e refl i n)
+borrowed p (Err why) own e i n = turned_down p why own e refl i n
 
 -- a call for which the program has no pass
 pub no_pass : (c : Call) (d : Desk) (p : Stage) (r : Record) → call (lists_of d.board) c (book_state d.book) (stage_pass p) ≡ refuse NoPass (book_state d.book) (lists_of d.board) (stage_pass p) → Noted (refusal 47 ∷ []) d.log r → Follows (Performs c) d (held_between p) (record { book = d.book; board = d.board; log = r }) (held_between p)

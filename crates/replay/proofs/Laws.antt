@@ -1,5 +1,5 @@
 -- A day's turns lead to its book and its pass, and say what is told of it: so the laws over all runs hold for it.
-use Rattle.std.proofs.Common.{◌≡◌, ℕ, ◌+◌, List, [], ◌∷◌, ◌++◌, map, Some, None, Option, sym, refl, ap, ◌∙◌, subst, append_assoc, arith}
+use Rattle.std.proofs.Common.{◌≡◌, ℕ, ◌+◌, List, [], ◌∷◌, ◌++◌, map, Some, None, Option, sym, refl, ap, ◌∙◌, subst, arith}
 use Rattle.std.proofs.lemmas.Bool.{cond-true}
 use Rattle.std.proofs.lemmas.List.Elements.{filter_map-append}
 use Rattle.std.proofs.lemmas.Grind.{flat_map-append}
@@ -23,7 +23,7 @@ use Rattle.laws.specs.Conserve.{trade_shares, back_shares, off_shares, sum_of, s
 use Rattle.laws.proofs.Happens.{nothing_else}
 use Rattle.laws.proofs.Conserve.{none_entered, shares_conserved_lem}
 use Rattle.laws.proofs.Priority.{time_priority_lem}
-use Rattle.replay.specs.Days.{Told, report, refusal, tell, turn, Finishes, idle, over, steps, Performs, performs, Requotes, Does, Day, done, then}
+use Rattle.replay.specs.Days.{Told, report, tell, turn, Finishes, idle, over, steps, Performs, performs, Requotes, Does, Day, done, then}
 use Rattle.replay.specs.Laws.{report_told, reports_told, reports_of, reports_said, book_after, pass_then, reports_by, in_shares, Accounted, Lawful}
 
 -- what is told of reports is those reports

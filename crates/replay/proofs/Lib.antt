@@ -1,6 +1,5 @@
 pub mod Boards
 pub mod Laws
-pub mod Texts
 pub mod Notes
 pub mod Calls
 pub mod Works

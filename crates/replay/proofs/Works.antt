@@ -55,14 +55,14 @@ module _ {d : Desk} (h : InHand) {d' : Desk} {p' : Held} (fit : fits (order_of h
         (subst (λ (x : List Told). Finishes (book_state d₀.book) (lists_of d₀.board) p₀.pass (w.turns ++ turn (lists_of d.board) Work ∷ ts) x s q p) (sym (append_assoc w.told (tell m.says) l)) all)
 
     -- the order is done
-    pub finished : Follows Finishes d' p' d' p' → Follows Finishes d₀ p₀ d' p'
-    finished f = record {
+    pub finished : {d'' : Desk} {p'' : Held} → Follows Finishes d' p' d'' p'' → Follows Finishes d₀ p₀ d'' p''
+    finished {d'' = d''} f = record {
       turns = (w.turns ++ turn (lists_of d.board) Work ∷ []) ++ f.turns;
       told = (w.told ++ tell m.says) ++ f.told;
       by_rule = step_on f.turns f.told _ _ _ f.by_rule;
-      noted = noted_on (w.told ++ tell m.says) f.told d₀.log d'.log d'.log (noted_on w.told (tell m.says) d₀.log d.log d'.log w.noted m.noted) f.noted;
-      pass = m.pass ∙ w.pass;
-      id = m.id ∙ w.id;
+      noted = noted_on (w.told ++ tell m.says) f.told d₀.log d'.log d''.log (noted_on w.told (tell m.says) d₀.log d.log d'.log w.noted m.noted) f.noted;
+      pass = f.pass ∙ m.pass ∙ w.pass;
+      id = f.id ∙ m.id ∙ w.id;
     }
 
 -- shares are left in hand

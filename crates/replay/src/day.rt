@@ -64,6 +64,7 @@ pub fn release(book: Book, stage: Stage) {
 }
 
 // The record as text: the names line, then a line for each report and refusal.
+#[tactic(auto, unfolding(crate::specs::Sessions::report_names))]
 pub fn render(lines: &[Line], heap: Global) -> Result<String, AllocError>
     ensures { IfOk result (λ s. string_bytes s ≡ lines_text (map told_of lines.now)) }
 {

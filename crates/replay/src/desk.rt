@@ -5,7 +5,7 @@ ghost use Rattle.replay.specs.Desks.{IsOwn, MayWork, Finished, Performed, Follow
 
 use crate::record::{Line, Record};
 use book::book::Book;
-use book::passes::{Ended, InHand, Next, Ready};
+use book::passes::{Ended, InHand, Next, Ready, Refused};
 use market::types::{Quotation, Refusal, Side, Terms};
 use order_file::instructions::Instruction;
 use table_board::table::TableBoard;
@@ -49,9 +49,9 @@ impl Desk {
         ensures { Performed (Enter side t) self.old (Stage.Open pass) self.new (Stage.Open result) }
     {
         match self.book.enter(pass, side, t) {
-            Err((why, back)) => {
+            Err(Refused { why, pass }) => {
                 self.log.note(Line(Err(why)));
-                back
+                pass
             }
             Ok((hand, report)) => {
                 self.log.note(Line(Ok(report)));
@@ -65,9 +65,9 @@ impl Desk {
         ensures { Performed (Replace t number) self.old (Stage.Open pass) self.new (Stage.Open result) }
     {
         match self.book.replace(pass, t, number) {
-            Err((why, back)) => {
+            Err(Refused { why, pass }) => {
                 self.log.note(Line(Err(why)));
-                back
+                pass
             }
             Ok((hand, off, entered)) => {
                 self.log.note(Line(Ok(off)));
@@ -82,9 +82,9 @@ impl Desk {
         ensures { Performed (Reply filled number) self.old (Stage.Open pass) self.new (Stage.Open result) }
     {
         match self.book.reply(pass, filled, number) {
-            Err((why, back)) => {
+            Err(Refused { why, pass }) => {
                 self.log.note(Line(Err(why)));
-                back
+                pass
             }
             Ok((next, report)) => {
                 self.log.note(Line(Ok(report)));
@@ -138,9 +138,9 @@ impl Desk {
     {
         match self.book.close(pass) {
             Ok(ended) => Stage::Over(ended),
-            Err((why, back)) => {
+            Err(Refused { why, pass }) => {
                 self.log.note(Line(Err(why)));
-                Stage::Open(back)
+                Stage::Open(pass)
             }
         }
     }

@@ -1,17 +1,16 @@
 use Rattle.std.proofs.Common.{[], ◌∷◌}
 use Rattle.market.specs.declared.types.Call.TheVariants.{Enter}
-use Rattle.market.specs.Reports.{refusal_number}
-use Rattle.market.specs.Calls.{reports, refused}
+use Rattle.market.specs.Calls.{reports}
 use Rattle.table_board.specs.Quoting.{lists_of}
 use Rattle.replay.specs.Desks.{held_working, held_between}
 use Rattle.replay.specs.declared.desk.Stage.TheVariants.{Open}
-use Rattle.replay.proofs.Calls.{made, at_once, and_finished, may_work}
+use Rattle.replay.proofs.Calls.{turned_down, made, and_finished, may_work}
 use Rattle.replay.proofs.desk.Desk.enter.Goals as goal
 
 pub returns-in-Err : goal.returns-in-Err
 returns-in-Err c =
     let e = c.in-Err.ensures in
-    at_once (Open c.in-Err.back) (made (refused (refusal_number c.in-Err.why)) c.requires (e.outcome (lists_of c.args.self.now.board)) e.pass e.id c.note.ensures)
+    turned_down (Open c.in-Err.back) c.in-Err.why c.requires (e.outcome (lists_of c.args.self.now.board)) e.pass e.id c.note.ensures
 
 pub finish-requires : goal.finish-requires
 finish-requires c =

@@ -1,20 +1,19 @@
 use Rattle.std.proofs.Common.{[], ◌∷◌, refl, sym, subst, Option, map}
 use Rattle.market.specs.declared.types.Report.{Report}
-use Rattle.market.specs.Reports.{refusal_number}
-use Rattle.market.specs.Calls.{reports, refused}
+use Rattle.market.specs.Calls.{reports}
 use Rattle.table_board.specs.Quoting.{lists_of}
 use Rattle.book.specs.Outcomes.{late_list}
 use Rattle.replay.specs.Days.{report}
 use Rattle.replay.specs.Records.{Noted}
 use Rattle.replay.specs.declared.desk.Stage.TheVariants.{Over}
 use Rattle.replay.proofs.Notes.{noted_on}
-use Rattle.replay.proofs.Calls.{made, at_once}
+use Rattle.replay.proofs.Calls.{turned_down, made, at_once}
 use Rattle.replay.proofs.desk.Desk.late_reply.Goals as goal
 
 pub returns-in-Err : goal.returns-in-Err
 returns-in-Err c =
     let e = c.in-Err.ensures in
-    at_once (Over c.args.pass.now) (made (refused (refusal_number c.in-Err.why)) c.requires (e.outcome (lists_of c.args.self.now.board)) refl e.id c.note.ensures)
+    turned_down (Over c.args.pass.now) c.in-Err.why c.requires (e.outcome (lists_of c.args.self.now.board)) refl e.id c.note.ensures
 
 pub returns-in-Some : goal.returns-in-Some
 returns-in-Some c =
