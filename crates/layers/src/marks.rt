@@ -28,11 +28,8 @@ impl Model for Marks {
 fn bit(venue: u32) -> Result<u64, Refusal>
     ensures { BitOf venue result }
 {
-    if is_legal_venue(venue) {
-        Ok(1 << (venue - 1))
-    } else {
-        Err(Refusal::Venue)
-    }
+    Refusal::Venue.unless(is_legal_venue(venue))?;
+    Ok(1 << (venue - 1))
 }
 
 impl Marks {

@@ -100,7 +100,6 @@ impl fmt::Display for Refusal {
     ghost output = { λ r. Some (refusal_line (refusal_number r)) };
 
     fn fmt<W: fmt::Write>(&self, f: &mut fmt::Formatter<W>) -> fmt::Result {
-        let number = u32::from(*self);
-        write!(f, "no - - - - - - {number}")
+        write!(f, "no - - - - - - {}", u32::from(*self))
     }
 }

@@ -18,16 +18,9 @@ use std::alloc::{AllocError, Global};
 pub fn check_quote(q: Quotation) -> Result<(), Refusal>
     ensures { result ≡ verdict (quotation_refusal q) }
 {
-    if q.size > 999_999 {
-        return Err(Refusal::Size);
-    }
-    if q.size != 0 && !is_legal_price(q.price) {
-        return Err(Refusal::Price);
-    }
-    if !is_legal_venue(q.venue) {
-        return Err(Refusal::Venue);
-    }
-    Ok(())
+    Refusal::Size.unless(q.size <= 999_999)?;
+    Refusal::Price.unless(q.size == 0 || is_legal_price(q.price))?;
+    Refusal::Venue.unless(is_legal_venue(q.venue))
 }
 
 impl Board for TableBoard {
