@@ -40,10 +40,7 @@ impl House {
     pub fn make_book(&mut self, heap: Global, first: u32) -> Result<(Book, Ready), NotMade>
         ensures { Makes self.old self.new first result }
     {
-        if self.made == u32::MAX {
-            return Err(NotMade::BookNumbersUsedUp);
-        }
-        let id = self.made + 1;
+        let id = self.made.checked_add(1).ok_or(NotMade::BookNumbersUsedUp)?;
         let new = Book::make(heap, id, first)?;
         self.made = id;
         Ok(new)

@@ -3,14 +3,14 @@
 
 mod input;
 
-use anyhow::anyhow;
+use anyhow::Context;
 use input::order_file;
 use replay::day::replay;
 use std::process::ExitCode;
 
 fn run(rt: &HostRuntime) -> anyhow::Result<()> {
     let file = order_file(rt)?;
-    let text = replay(&file, rt.alloc()).map_err(|_| anyhow!("there is not enough memory"))?;
+    let text = replay(&file, rt.alloc()).context("there is not enough memory")?;
     Ok(rt.print(&text)?)
 }
 
