@@ -1,21 +1,23 @@
 -- A call of the book with its own pass, made at a desk: what it says is noted, and the order that it takes in hand is worked to its end.
-use Rattle.std.proofs.Common.{◌≡◌, eqb, [], ◌∷◌, ◌++◌, Ok, Err, Result, sym, refl, ◌∙◌, subst}
-use Rattle.std.proofs.lemmas.Bool.{eq-eqb, cond-true}
+use Rattle.std.proofs.Common.{◌≡◌, [], ◌∷◌, ◌++◌, Ok, Err, Result, sym, refl, ap, ◌∙◌, subst}
+use Rattle.std.proofs.lemmas.Bool.{eq-eqb}
 use Rattle.market.specs.declared.types.Call.{Call}
 use Rattle.market.specs.declared.types.Report.{Report}
 use Rattle.market.specs.declared.types.Refusal.{Refusal}
-use Rattle.market.specs.Calls.{in_hand, Says, reports, refused, Outcome, answer, refuse, call}
+use Rattle.market.specs.Calls.{in_hand, Says, reports, refused, Outcome, answer, refuse, unless, checked, call}
 use Rattle.market.specs.Reports.{refusal_number}
 use Rattle.soundness.specs.Kept.{Bearable}
 use Rattle.soundness.proofs.Kept.{sound_kept_lem}
 use Rattle.table_board.specs.Quoting.{lists_of}
+use Rattle.book.specs.declared.passes.Ready.{Ready}
 use Rattle.book.specs.declared.passes.InHand.{InHand}
+use Rattle.book.specs.declared.passes.Refused.{Refused}
 use Rattle.book.specs.declared.passes.Next.{Next}
-use Rattle.book.specs.Outcomes.{book_state, id_of, own_call, order_of, reported_as, next_pass, next_book}
+use Rattle.book.specs.Outcomes.{Seen, book_state, id_of, own_call, order_of, reported_as, refused_as, next_pass, next_book}
 use Rattle.replay.specs.Days.{report, refusal, tell, turn, Finishes, idle, over, Performs, performs}
 use Rattle.replay.specs.Records.{told_in, Noted}
 use Rattle.replay.specs.Desks.{Held, held_between, held_working, MayWork, stage_pass, stage_book, Follows}
-use Rattle.market.specs.declared.types.Refusal.TheVariants.{NoPass}
+use Rattle.market.specs.declared.types.Refusal.TheVariants.{WrongPass, NoPass}
 use Rattle.replay.specs.declared.record.Record.{Record}
 use Rattle.replay.specs.declared.desk.Desk.{Desk}
 use Rattle.replay.specs.declared.desk.Stage.{Stage}
@@ -39,28 +41,31 @@ pub record Made (c : Call) (d : Desk) (p : Held) (d' : Desk) (p' : Held) : Type 
   pub pass : p'.book ≡ p.book
   pub id : id_of d'.book ≡ id_of d.book
 
+-- what is seen of a call at a desk
+abbrev pub seen_at : Desk → Held → Outcome → Seen
+seen_at d p o = record { book = id_of d.book; bears = p.book; outcome = o }
+
+own_outcome : (d : Desk) (p : Held) (c : Call) → p.book ≡ id_of d.book → (own_call d.book p.book (lists_of d.board) c p.pass).outcome ≡ call (lists_of d.board) c (book_state d.book) p.pass
+own_outcome d p c own = ap (λ t. checked (unless t WrongPass) (book_state d.book) (lists_of d.board) p.pass (call (lists_of d.board) c (book_state d.book) p.pass)) (eq-eqb p.book (id_of d.book) own)
+
 -- what the book promises of a call, at a desk
 pub made : {c : Call} {d : Desk} {p : Held} {d' : Desk} {p' : Held} (x : Says) →
     p.book ≡ id_of d.book →
-    outcome_at x d' p' ≡ own_call (eqb p.book (id_of d.book)) (lists_of d.board) c (book_state d.book) p.pass →
-    p'.book ≡ p.book →
-    id_of d'.book ≡ id_of d.book →
+    seen_at d' p' (outcome_at x d' p') ≡ own_call d.book p.book (lists_of d.board) c p.pass →
     Noted (tell x) d.log d'.log →
     Made c d p d' p'
-made {c = c} {d = d} {p = p} x own e b i n =
-    record { says = x; outcome = e ∙ cond-true (eqb p.book (id_of d.book)) _ _ (eq-eqb p.book (id_of d.book) own); noted = n; pass = b; id = i }
+made {c = c} {d = d} {p = p} x own e n =
+    record { says = x; outcome = ap (λ (z : Seen). z.outcome) e ∙ own_outcome d p c own; noted = n; pass = ap (λ (z : Seen). z.bears) e; id = ap (λ (z : Seen). z.book) e }
 
 -- the same of a reply or a step that is not refused, once it is known what comes back
 pub made_next : {c : Call} {d : Desk} {p : Held} {d' : Desk} (rep : Report) (next n : Next) →
     p.book ≡ id_of d.book →
-    answer (rep ∷ []) (book_state d'.book) (lists_of d'.board) (next_pass next) ≡ own_call (eqb p.book (id_of d.book)) (lists_of d.board) c (book_state d.book) p.pass →
-    next_book next ≡ p.book →
-    id_of d'.book ≡ id_of d.book →
+    seen_at d' (held_next next) (answer (rep ∷ []) (book_state d'.book) (lists_of d'.board) (next_pass next)) ≡ own_call d.book p.book (lists_of d.board) c p.pass →
     Noted (report rep ∷ []) d.log d'.log →
     next ≡ n →
     Made c d p d' (held_next n)
-made_next {c = c} {d = d} {p = p} {d' = d'} rep next n own e b i k is =
-    let m : Made c d p d' (held_next next) = made (reports (rep ∷ [])) own e b i k in subst (λ z. Made c d p d' (held_next z)) is m
+made_next {c = c} {d = d} {p = p} {d' = d'} rep next n own e k is =
+    let m : Made c d p d' (held_next next) = made (reports (rep ∷ [])) own e k in subst (λ z. Made c d p d' (held_next z)) is m
 
 -- the order in hand is worked to its end after it
 pub and_finished : {c : Call} {d : Desk} {p : Held} {d₁ : Desk} {p₁ : Held} {d' : Desk} {p' : Held} → Made c d p d₁ p₁ → Follows Finishes d₁ p₁ d' p' → Follows (Performs c) d p d' p'
@@ -87,12 +92,18 @@ at_once {d' = d'} p' m = and_finished m (nothing_left d' p')
 -- a call that is refused: the pass p comes back
 pub turned_down : {c : Call} {d : Desk} {p₀ : Held} {d' : Desk} (p : Stage) (why : Refusal) →
     p₀.book ≡ id_of d.book →
-    refuse why (book_state d'.book) (lists_of d'.board) (stage_pass p) ≡ own_call (eqb p₀.book (id_of d.book)) (lists_of d.board) c (book_state d.book) p₀.pass →
-    stage_book p ≡ p₀.book →
-    id_of d'.book ≡ id_of d.book →
+    seen_at d' (held_between p) (refuse why (book_state d'.book) (lists_of d'.board) (stage_pass p)) ≡ own_call d.book p₀.book (lists_of d.board) c p₀.pass →
     Noted (refusal (refusal_number why) ∷ []) d.log d'.log →
     Follows (Performs c) d p₀ d' (held_between p)
-turned_down p why own e b i n = at_once p (made (refused (refusal_number why)) own e b i n)
+turned_down p why own e n = at_once p (made (refused (refusal_number why)) own e n)
+
+-- the same of a call that hands its pass back
+pub handed_back : {c : Call} {d : Desk} {p₀ : Held} {d' : Desk} (r : Refused Ready) →
+    p₀.book ≡ id_of d.book →
+    refused_as r d'.book (lists_of d'.board) ≡ own_call d.book p₀.book (lists_of d.board) c p₀.pass →
+    Noted (refusal (refusal_number r.why) ∷ []) d.log d'.log →
+    Follows (Performs c) d p₀ d' (held_between (Open r.pass))
+handed_back r own e n = turned_down (Open r.pass) r.why own e n
 
 -- what comes back in hand may be worked
 pub may_work : (c : Call) (d : Desk) (p : Held) {d' : Desk} (h : InHand) → Made c d p d' (held_working h) → p.book ≡ id_of d.book → Bearable p.pass (book_state d.book) → MayWork d' h
@@ -104,12 +115,11 @@ may_work c d p {d' = d'} h m own b =
 -- a call that borrows its pass
 pub borrowed : {c : Call} {d d' : Desk} (p : Stage) (x : Result Report Refusal) →
     stage_book p ≡ id_of d.book →
-    reported_as (stage_pass p) x (book_state d'.book) (lists_of d'.board) ≡ own_call (eqb (stage_book p) (id_of d.book)) (lists_of d.board) c (book_state d.book) (stage_pass p) →
-    id_of d'.book ≡ id_of d.book →
+    reported_as (stage_pass p) (stage_book p) x d'.book (lists_of d'.board) ≡ own_call d.book (stage_book p) (lists_of d.board) c (stage_pass p) →
     Noted (told_in x ∷ []) d.log d'.log →
     Follows (Performs c) d (held_between p) d' (held_between p)
-borrowed p (Ok r) own e i n = at_once p (made (reports (r ∷ [])) own e refl i n)
-borrowed p (Err why) own e i n = turned_down p why own e refl i n
+borrowed p (Ok r) own e n = at_once p (made (reports (r ∷ [])) own e n)
+borrowed p (Err why) own e n = turned_down p why own e n
 
 -- a call for which the program has no pass
 pub no_pass : (c : Call) (d : Desk) (p : Stage) (r : Record) → call (lists_of d.board) c (book_state d.book) (stage_pass p) ≡ refuse NoPass (book_state d.book) (lists_of d.board) (stage_pass p) → Noted (refusal 47 ∷ []) d.log r → Follows (Performs c) d (held_between p) (record { book = d.book; board = d.board; log = r }) (held_between p)

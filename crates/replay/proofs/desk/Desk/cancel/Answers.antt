@@ -4,4 +4,4 @@ use Rattle.replay.proofs.Calls.{borrowed}
 use Rattle.replay.proofs.desk.Desk.cancel.Goals as goal
 
 pub returns : goal.returns
-returns c = borrowed (Open c.args.pass.now) c.cancel.result c.requires (c.cancel.ensures.outcome (lists_of c.args.self.now.board)) c.cancel.ensures.id c.note.ensures
+returns c = borrowed (Open c.args.pass.now) c.cancel.result c.requires (c.cancel.ensures (lists_of c.args.self.now.board)) c.note.ensures

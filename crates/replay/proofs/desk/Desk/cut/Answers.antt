@@ -4,4 +4,4 @@ use Rattle.replay.proofs.Calls.{borrowed}
 use Rattle.replay.proofs.desk.Desk.cut.Goals as goal
 
 pub returns : goal.returns
-returns c = borrowed (Open c.args.pass.now) c.cut.result c.requires (c.cut.ensures.outcome (lists_of c.args.self.now.board)) c.cut.ensures.id c.note.ensures
+returns c = borrowed (Open c.args.pass.now) c.cut.result c.requires (c.cut.ensures (lists_of c.args.self.now.board)) c.note.ensures

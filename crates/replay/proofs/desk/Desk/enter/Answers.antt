@@ -4,20 +4,20 @@ use Rattle.market.specs.Calls.{reports}
 use Rattle.table_board.specs.Quoting.{lists_of}
 use Rattle.replay.specs.Desks.{held_working, held_between}
 use Rattle.replay.specs.declared.desk.Stage.TheVariants.{Open}
-use Rattle.replay.proofs.Calls.{turned_down, made, and_finished, may_work}
+use Rattle.replay.proofs.Calls.{handed_back, made, and_finished, may_work}
 use Rattle.replay.proofs.desk.Desk.enter.Goals as goal
 
 pub returns-in-Err : goal.returns-in-Err
 returns-in-Err c =
     let e = c.in-Err.ensures in
-    turned_down (Open c.in-Err.back) c.in-Err.why c.requires (e.outcome (lists_of c.args.self.now.board)) e.pass e.id c.note.ensures
+    handed_back c.in-Err.field-0 c.requires (e (lists_of c.args.self.now.board)) c.note.ensures
 
 pub finish-requires : goal.finish-requires
 finish-requires c =
     let e = c.in-Ok.ensures in
-    may_work (Enter c.args.side c.args.t) c.args.self.now (held_between (Open c.args.pass)) c.in-Ok.hand (made (reports (c.in-Ok.report ∷ [])) c.requires (e.outcome (lists_of c.args.self.now.board)) e.pass e.id c.note-in-Ok.ensures) c.requires tt
+    may_work (Enter c.args.side c.args.t) c.args.self.now (held_between (Open c.args.pass)) c.in-Ok.hand (made (reports (c.in-Ok.report ∷ [])) c.requires (e (lists_of c.args.self.now.board)) c.note-in-Ok.ensures) c.requires tt
 
 pub returns-in-Ok : goal.returns-in-Ok
 returns-in-Ok c =
     let e = c.in-Ok.ensures in
-    and_finished {p₁ = held_working c.in-Ok.hand} (made (reports (c.in-Ok.report ∷ [])) c.requires (e.outcome (lists_of c.args.self.now.board)) e.pass e.id c.note-in-Ok.ensures) c.finish.ensures
+    and_finished {p₁ = held_working c.in-Ok.hand} (made (reports (c.in-Ok.report ∷ [])) c.requires (e (lists_of c.args.self.now.board)) c.note-in-Ok.ensures) c.finish.ensures

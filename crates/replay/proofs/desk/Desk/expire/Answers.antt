@@ -4,4 +4,4 @@ use Rattle.replay.proofs.Calls.{borrowed}
 use Rattle.replay.proofs.desk.Desk.expire.Goals as goal
 
 pub returns : goal.returns
-returns c = borrowed (Over c.args.pass.now) c.expire.result c.requires (c.expire.ensures.outcome (lists_of c.args.self.now.board)) c.expire.ensures.id c.note.ensures
+returns c = borrowed (Over c.args.pass.now) c.expire.result c.requires (c.expire.ensures (lists_of c.args.self.now.board)) c.note.ensures

@@ -16,17 +16,17 @@ pub returns-in-Done : goal.returns-in-Done
 returns-in-Done c =
     let l = c.loop-worked in
     let e = c.in-Ok.ensures in
-    finished l.hand l.invariant.may.fit (made_next c.in-Ok.worked.1 c.in-Ok.worked.0 (Done c.in-Done.ready) l.invariant.may.own e.outcome e.pass e.id c.note.ensures c.in-Done.is) l.invariant (nothing_left _ (Open c.in-Done.ready))
+    finished l.hand l.invariant.may.fit (made_next c.in-Ok.worked.1 c.in-Ok.worked.0 (Done c.in-Done.ready) l.invariant.may.own e c.note.ensures c.in-Done.is) l.invariant (nothing_left _ (Open c.in-Done.ready))
 
 pub loop-worked-smaller : goal.loop-worked-smaller
 loop-worked-smaller c =
     let l = c.loop-worked in
     let e = c.in-Ok.ensures in
-    let m = made_next {p = held_working l.hand} {d' = record { book = c.work.new.self; board = c.work.new.board; log = c.note.new.self }} c.in-Ok.worked.1 c.in-Ok.worked.0 (More c.in-More.rest) l.invariant.may.own e.outcome e.pass e.id c.note.ensures c.in-More.is in
+    let m = made_next {p = held_working l.hand} {d' = record { book = c.work.new.self; board = c.work.new.board; log = c.note.new.self }} c.in-Ok.worked.1 c.in-Ok.worked.0 (More c.in-More.rest) l.invariant.may.own e c.note.ensures c.in-More.is in
     (remainder_never_grows (book_state l.self.book) (lists_of l.self.board) (order_of l.hand) (order_of c.in-More.rest) (left_is l.hand c.in-More.rest l.invariant m)).1 l.hand.fit l.self.book.orders.sound (table_shown l.self.board)
 
 pub loop-worked-preserved : goal.loop-worked-preserved
 loop-worked-preserved c =
     let l = c.loop-worked in
     let e = c.in-Ok.ensures in
-    onward l.hand c.in-More.rest l.invariant (made_next c.in-Ok.worked.1 c.in-Ok.worked.0 (More c.in-More.rest) l.invariant.may.own e.outcome e.pass e.id c.note.ensures c.in-More.is)
+    onward l.hand c.in-More.rest l.invariant (made_next c.in-Ok.worked.1 c.in-Ok.worked.0 (More c.in-More.rest) l.invariant.may.own e c.note.ensures c.in-More.is)

@@ -6,20 +6,20 @@ use Rattle.replay.specs.Days.{report}
 use Rattle.replay.specs.Desks.{held_working, held_between}
 use Rattle.replay.specs.declared.desk.Stage.TheVariants.{Open}
 use Rattle.replay.proofs.Notes.{noted_on}
-use Rattle.replay.proofs.Calls.{turned_down, made, and_finished, may_work}
+use Rattle.replay.proofs.Calls.{handed_back, made, and_finished, may_work}
 use Rattle.replay.proofs.desk.Desk.replace.Goals as goal
 
 pub returns-in-Err : goal.returns-in-Err
 returns-in-Err c =
     let e = c.in-Err.ensures in
-    turned_down (Open c.in-Err.back) c.in-Err.why c.requires (e.outcome (lists_of c.args.self.now.board)) e.pass e.id c.note.ensures
+    handed_back c.in-Err.field-0 c.requires (e (lists_of c.args.self.now.board)) c.note.ensures
 
 pub finish-requires : goal.finish-requires
 finish-requires c =
     let e = c.in-Ok.ensures in
-    may_work (Replace c.args.t c.args.number) c.args.self.now (held_between (Open c.args.pass)) c.in-Ok.hand (made (reports (c.in-Ok.off ∷ c.in-Ok.entered ∷ [])) c.requires (e.outcome (lists_of c.args.self.now.board)) e.pass e.id (noted_on (report c.in-Ok.off ∷ []) (report c.in-Ok.entered ∷ []) c.args.self.now.log c.note-in-Ok.new.self c.note-in-Ok-2.new.self c.note-in-Ok.ensures c.note-in-Ok-2.ensures)) c.requires tt
+    may_work (Replace c.args.t c.args.number) c.args.self.now (held_between (Open c.args.pass)) c.in-Ok.hand (made (reports (c.in-Ok.off ∷ c.in-Ok.entered ∷ [])) c.requires (e (lists_of c.args.self.now.board)) (noted_on (report c.in-Ok.off ∷ []) (report c.in-Ok.entered ∷ []) c.args.self.now.log c.note-in-Ok.new.self c.note-in-Ok-2.new.self c.note-in-Ok.ensures c.note-in-Ok-2.ensures)) c.requires tt
 
 pub returns-in-Ok : goal.returns-in-Ok
 returns-in-Ok c =
     let e = c.in-Ok.ensures in
-    and_finished {p₁ = held_working c.in-Ok.hand} (made (reports (c.in-Ok.off ∷ c.in-Ok.entered ∷ [])) c.requires (e.outcome (lists_of c.args.self.now.board)) e.pass e.id (noted_on (report c.in-Ok.off ∷ []) (report c.in-Ok.entered ∷ []) c.args.self.now.log c.note-in-Ok.new.self c.note-in-Ok-2.new.self c.note-in-Ok.ensures c.note-in-Ok-2.ensures)) c.finish.ensures
+    and_finished {p₁ = held_working c.in-Ok.hand} (made (reports (c.in-Ok.off ∷ c.in-Ok.entered ∷ [])) c.requires (e (lists_of c.args.self.now.board)) (noted_on (report c.in-Ok.off ∷ []) (report c.in-Ok.entered ∷ []) c.args.self.now.log c.note-in-Ok.new.self c.note-in-Ok-2.new.self c.note-in-Ok.ensures c.note-in-Ok-2.ensures)) c.finish.ensures
