@@ -1,13 +1,22 @@
--- What the comparison of two chains by `eq` says of the lists that they give.
-use Rattle.std.proofs.Common.{◌≡◌, Bool, true, false, List, [], ◌∷◌, map, Some, None, Decides, Option, refl, sym, ap₂, ◌∙◌, subst}
+-- What the comparison of two chains by `eq` says of the lists that they give, and that of open orders of their sheets.
+use Rattle.std.proofs.Common.{◌≡◌, Bool, true, false, List, [], ◌∷◌, map, Some, None, Decides, Option, refl, sym, ap, ap₂, ◌∙◌, subst, rules}
 use Rattle.market.specs.declared.types.Side.{Side}
 use Rattle.market.specs.declared.types.Side.TheVariants.{Buy, Sell}
 use Rattle.market.specs.States.{State, on}
-use Rattle.market.specs.Sheets.{line, sheet}
+use Rattle.market.specs.Sheets.{line, route_line, sheet, Equal}
 use Rattle.std.specs.Option.{MatchOption, IfSome}
 use Rattle.std.specs.Iterator.{AlwaysYields, YieldsThen, ComparesItemsByEq}
 use Rattle.std.specs.List.{AllZip}
-use Rattle.std.proofs.lemmas.Bool.{both_ways}
+use Rattle.std.proofs.lemmas.Bool.{both_ways, and_parts, and_from}
+use Rattle.std.proofs.lemmas.Bool.Decides.{Decides-eqb}
+use Rattle.std.proofs.lemmas.Slice.Eq.{slice_eq-Decides}
+use Rattle.market.specs.declared.types.Resting.{Resting}
+use Rattle.market.specs.declared.types.Route.{Route}
+use Rattle.market.specs.contracts.types.RestingPartialEq.TheImpl as resting
+use Rattle.market.specs.contracts.types.RoutePartialEq.TheImpl as route
+use Rattle.resting.specs.Orders.{state_of}
+use Rattle.resting.specs.Sheets.{same_sheet}
+use Rattle.resting.specs.declared.orders.OpenOrders.{OpenOrders}
 use Rattle.std.proofs.lemmas.Iterator.{YieldsList}
 
 module _ {S T A : Type 0} (steps : S → Option A → S → Type 0) (others : T → Option A → T → Type 0) (eq : A → A → Bool) (decides : (x y : A) → Decides (eq x y) (x ≡ y)) (r : Bool) where
@@ -59,3 +68,30 @@ same_from_eq {A = A} {steps = steps} {others = others} {s = s} {eq = eq} {xs = x
 pub decided_on : (d : Side) (s s' : State) (r : Bool) → Decides r (map line (on d s) ≡ map line (on d s')) → Decides r (on d (sheet s) ≡ on d (sheet s'))
 decided_on Buy s s' r h = h
 decided_on Sell s s' r h = h
+
+same_resting : (x y : Resting) → Decides (resting.ghosts.eq x y) (x ≡ y)
+same_resting x y = search rules
+
+same_route : (x y : Route) → Decides (route.ghosts.eq x y) (x ≡ y)
+same_route x y = search rules
+
+-- the comparison tells whether the sheets are the same
+pub same_sheet_decides : (x y : OpenOrders) → Decides (same_sheet x y) (Equal (state_of x) (state_of y))
+same_sheet_decides x y =
+    let s = state_of x in
+    let z = state_of y in
+    let n = Decides-eqb s.next z.next in
+    let b = slice_eq-Decides same_resting (map line s.buys) (map line z.buys) _ refl in
+    let o = slice_eq-Decides same_resting (map line s.sells) (map line z.sells) _ refl in
+    let r = slice_eq-Decides same_route (map route_line s.routes) (map route_line z.routes) _ refl in
+    let forth : same_sheet x y ≡ true → Equal s z = λ t.
+    let t0 = and_parts _ _ t in
+    let t1 = and_parts _ _ t0.1 in
+    let t2 = and_parts _ _ t1.1 in
+    let e0 = n.0 t0.0 in
+    let e1 = b.0 t1.0 in
+    let e2 = o.0 t2.0 in
+    let e3 = r.0 t2.1 in
+    cc in
+    let back : Equal s z → same_sheet x y ≡ true = λ e. and_from _ _ (n.1 (ap (λ x. x.next) e)) (and_from _ _ (b.1 (ap (λ x. x.buys) e)) (and_from _ _ (o.1 (ap (λ x. x.sells) e)) (r.1 (ap (λ x. x.routes) e)))) in
+    (forth, back)

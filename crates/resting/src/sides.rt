@@ -37,7 +37,7 @@ pub(crate) fn trade_first(list: &mut RankedList<Resting, 256>, side: Side, k: u3
     requires { k ≤ first_shown (lines_of list.old) }
     ensures { lines_of list.new ≡ traded side k (lines_of list.old) }
 {
-    if list.len() > 0 {
+    if !list.is_empty() {
         lessen_first(list, k);
         settle(list, side);
     }

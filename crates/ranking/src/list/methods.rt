@@ -1,5 +1,5 @@
 // What is done with a ranked list.
-ghost use Rattle.std.specs.Prelude.{◌≡◌, ◌<◌, Bool, true, not, [], length, IfOk, slice_index_or};
+ghost use Rattle.std.specs.Prelude.{◌≡◌, ◌<◌, Bool, true, not, [], length, IfOk, slice_index_or, ◌==◌};
 ghost use Rattle.std.specs.List.{remove, slice_get};
 ghost use Rattle.ranking.specs.Place.{head_of, every, place, behind, in_rank, Found};
 ghost use Rattle.ranking.specs.Lists.{lines_of, store_of, with_line};
@@ -26,6 +26,13 @@ impl<T, const MOST: usize> RankedList<T, MOST> {
         self.lines.len()
     }
 
+    pub fn is_empty(&self) -> bool
+        ensures { result ≡ (length (lines_of self.now) == 0) }
+    {
+        self.lines.is_empty()
+    }
+
+    // The lines, in rank.
     pub fn as_slice(&self) -> &[T]
         ensures { result.now ≡ lines_of self.now }
     {

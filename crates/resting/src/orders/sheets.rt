@@ -4,6 +4,10 @@ ghost use Rattle.std.specs.List.{slice_get};
 ghost use Rattle.market.specs.States.{on};
 ghost use Rattle.market.specs.Sheets.{sheet, Equal};
 ghost use Rattle.resting.specs.Orders.{state_of};
+ghost use Rattle.resting.specs.Sheets.{same_sheet};
+ghost use Rattle.std.specs.Cmp.Rules.{comparing};
+ghost use Rattle.market.specs.contracts.types.RestingPartialEq.TheImpl.Laws as resting;
+ghost use Rattle.market.specs.contracts.types.RoutePartialEq.TheImpl.Laws as route;
 
 use super::OpenOrders;
 use crate::shares::{on_route_list, on_sheet};
@@ -46,6 +50,17 @@ impl OpenOrders {
     pub fn equals(&self, other: &OpenOrders) -> bool
         ensures { Decides result (Equal (state_of self.now) (state_of other.now)) }
     {
+        self == other
+    }
+}
+
+// Two are equal where these are the same, whatever else differs.
+impl PartialEq for OpenOrders {
+    ghost eq = { same_sheet };
+
+    ghost laws = { Prim.search (comparing, resting.laws-law, route.laws-law) depth 14 };
+
+    fn eq(&self, other: &OpenOrders) -> bool {
         self.next == other.next
             && self.has_the_side_of(other, Side::Buy)
             && self.has_the_side_of(other, Side::Sell)
