@@ -11,10 +11,13 @@ pub mod looks;
 pub mod moves;
 pub mod sheets;
 
+// The resting orders of one side.
+pub(crate) type RestingList = RankedList<Resting, 256>;
+
 // No value of this type is out of rank, overfull or crossed, displays 0, or has a number twice or not yet given.
 #[derive(Drop)]
 pub struct OpenOrders {
-    sides: Sides<RankedList<Resting, 256>>,
+    sides: Sides<RestingList>,
     routes: RankedList<Route, 64>,
     next: u32,
     ghost sound: { Sound (state (lines_of sides.buy) (lines_of sides.sell) (lines_of routes) next) },

@@ -4,12 +4,12 @@ ghost use Rattle.ranking.specs.Lists.{lines_of};
 ghost use Rattle.market.specs.Orders.{traded};
 ghost use Rattle.resting.specs.Sides.{first_shown, less_first, settle_first, trim_at, total_at};
 
+use crate::orders::RestingList;
 use crate::shares::{is_due, refreshed};
-use market::types::{Resting, Side};
-use ranking::list::RankedList;
+use market::types::Side;
 
 // Lessens the first order where it rests.
-fn lessen_first(list: &mut RankedList<Resting, 256>, k: u32)
+fn lessen_first(list: &mut RestingList, k: u32)
     requires some { 0 < length (lines_of list.old) }
     requires few { k ≤ first_shown (lines_of list.old) }
     ensures { lines_of list.new ≡ less_first k (lines_of list.old) }
@@ -19,7 +19,7 @@ fn lessen_first(list: &mut RankedList<Resting, 256>, k: u32)
 }
 
 // The first order, once lessened, is refreshed behind its price, goes, or stays where it rests.
-fn settle(list: &mut RankedList<Resting, 256>, side: Side)
+fn settle(list: &mut RestingList, side: Side)
     ensures { lines_of list.new ≡ settle_first side (lines_of list.old) }
 {
     if let Some(first) = list.first() {
@@ -33,7 +33,7 @@ fn settle(list: &mut RankedList<Resting, 256>, side: Side)
 }
 
 // Trades k shares with the first order of a side.
-pub(crate) fn trade_first(list: &mut RankedList<Resting, 256>, side: Side, k: u32)
+pub(crate) fn trade_first(list: &mut RestingList, side: Side, k: u32)
     requires { k ≤ first_shown (lines_of list.old) }
     ensures { lines_of list.new ≡ traded side k (lines_of list.old) }
 {
@@ -44,7 +44,7 @@ pub(crate) fn trade_first(list: &mut RankedList<Resting, 256>, side: Side, k: u3
 }
 
 // Cuts k shares of the order at a place: held shares first, then displayed ones. It keeps its place.
-pub(crate) fn trim_line(list: &mut RankedList<Resting, 256>, place: usize, k: u32)
+pub(crate) fn trim_line(list: &mut RestingList, place: usize, k: u32)
     requires place { place < length (lines_of list.old) }
     requires few { k < total_at place (lines_of list.old) }
     ensures { lines_of list.new ≡ trim_at place k (lines_of list.old) }

@@ -6,22 +6,18 @@ ghost use Rattle.market.specs.States.{venue_is};
 ghost use Rattle.market.specs.Quotes.{without, requoted};
 ghost use Rattle.table_board.specs.Quoting.{TakenFrom};
 
+use crate::table::QuotationList;
 use market::types::{Quotation, Refusal, Side};
-use ranking::list::RankedList;
 
 // The place of a venue's line, if it has one.
-fn find_line(lines: &RankedList<Quotation, 64>, venue: u32) -> Option<usize>
+fn find_line(lines: &QuotationList, venue: u32) -> Option<usize>
     ensures { Found (venue_is venue) (lines_of lines.now) result }
 {
     lines.find(|q| q.venue == venue)
 }
 
 // Takes shares from a venue's line, which is lessened where it stands and goes once it has none left.
-pub fn take_from(
-    lines: &mut RankedList<Quotation, 64>,
-    venue: u32,
-    shares: u32,
-) -> Result<(), Refusal>
+pub fn take_from(lines: &mut QuotationList, venue: u32, shares: u32) -> Result<(), Refusal>
     ensures { TakenFrom venue shares (lines_of lines.old) (lines_of lines.new) result }
 {
     let Some(place) = find_line(lines, venue) else {
@@ -40,7 +36,7 @@ pub fn take_from(
 }
 
 // Drops a venue's line, if it has one.
-fn drop_line(lines: &mut RankedList<Quotation, 64>, venue: u32)
+fn drop_line(lines: &mut QuotationList, venue: u32)
     ensures { lines_of lines.new ≡ without venue (lines_of lines.old) }
 {
     if let Some(place) = find_line(lines, venue) {
@@ -49,7 +45,7 @@ fn drop_line(lines: &mut RankedList<Quotation, 64>, venue: u32)
 }
 
 // Puts a venue's line in place of the one that it had; a size of 0 is no line.
-pub fn requote(lines: &mut RankedList<Quotation, 64>, side: Side, q: Quotation)
+pub fn requote(lines: &mut QuotationList, side: Side, q: Quotation)
     requires { length (without q.venue (lines_of lines.old)) < 64 }
     ensures { lines_of lines.new ≡ requoted side q (lines_of lines.old) }
 {

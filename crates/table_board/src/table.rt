@@ -9,9 +9,11 @@ use ranking::list::RankedList;
 
 pub mod methods;
 
-// Room for a line of each of the 64 venues is reserved when the board is made.
+// The quotations of one side: room for a line of each of the 64 venues is reserved when it is made.
+pub(crate) type QuotationList = RankedList<Quotation, 64>;
+
 #[derive(Drop)]
 pub struct TableBoard {
-    lists: Sides<RankedList<Quotation, 64>>,
+    lists: Sides<QuotationList>,
     ghost shown: { Shown (quotes_of (lines_of lists.buy) (lines_of lists.sell)) },
 }
