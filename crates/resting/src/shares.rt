@@ -87,13 +87,8 @@ pub fn left_of(o: Order, k: u32) -> Option<Order>
     requires { k ≤ o.shares }
     ensures { result ≡ remaining k o }
 {
-    if o.shares == k {
-        return None;
-    }
-    Some(Order {
-        shares: o.shares - k,
-        ..o
-    })
+    let shares = o.shares - k;
+    (shares != 0).then_some(Order { shares, ..o })
 }
 
 // k shares of an order as a route to a quotation.
