@@ -1,14 +1,12 @@
 -- When bytes are what `decimal` writes of a number of 32 bits.
-use Rattle.std.proofs.Common.{◌≡◌, ℕ, zero, suc, ◌+◌, ◌*◌, ◌^◌, ◌<◌, ◌≤◌, List, ◌++◌, map, length, get_or, take, drop, decimal, sym, ap, ◌∙◌, subst, arith}
+use Rattle.std.proofs.Common.{◌≡◌, ℕ, zero, suc, ◌+◌, ◌*◌, ◌^◌, ◌<◌, ◌≤◌, List, length, get_or, take, decimal, sym, ap, ◌∙◌, subst, arith}
 use Rattle.std.specs.Str.Parse.{digits_value, AllDigits}
 use Rattle.order_file.specs.Fields.{a_number, Writes}
 use Rattle.std.specs.Char.{digit_value}
 use Rattle.std.specs.Int.{IsInRange}
-use Rattle.std.specs.Int.Digits.{number_from_digits, number_from_digits_after}
-use Rattle.std.proofs.lemmas.Int.Digits.{digits_value_is, number_after_append, number_after_ge, digits_value_more, digits_more}
+use Rattle.std.proofs.lemmas.Int.Digits.{digits_value_more, digits_more}
 use Rattle.std.proofs.lemmas.Fmt.{decimal-digits_value, decimal_nonempty, first_decimal, decimal_digit, digits_decimal, digits_value-decimal}
-use Rattle.std.proofs.lemmas.Str.Parse.{IsNumeralModel, numerals_by_value, tells_digits, digit_at}
-use Rattle.std.proofs.lemmas.List.{take-append-drop, map-append}
+use Rattle.std.proofs.lemmas.Str.Parse.{IsNumeralModel, numerals_by_value, digits_value-take-le, tells_digits, digit_at}
 use Rattle.std.proofs.lemmas.Str.{digit_value_digit}
 
 pub own : IsNumeralModel (AllDigits 10) (digits_value 10)
@@ -35,21 +33,10 @@ other_not bs i l bad n h = bad (digit_at bs i (subst (AllDigits 10) (sym h.1) (d
 pub no_digit : (bs : List ℕ) (i : ℕ) → i < length bs → (digit_value (get_or bs i 0) < 10 → ⊥) → (n : ℕ) → Writes a_number n bs → ⊥
 no_digit bs i l bad = other_not bs i l (λ r. let d : digit_value (get_or bs i 0) + 48 ≡ get_or bs i 0 = digit_value_digit (get_or bs i 0) r in bad (omega (arith, r)))
 
-front_le : (xs ys : List ℕ) → digits_value 10 xs ≤ digits_value 10 (xs ++ ys)
-front_le xs ys =
-    let a : digits_value 10 xs ≡ number_from_digits 10 (map digit_value xs) = digits_value_is 10 xs in
-    let b : digits_value 10 (xs ++ ys) ≡ number_from_digits 10 (map digit_value (xs ++ ys)) = digits_value_is 10 (xs ++ ys) in
-    let d : number_from_digits 10 (map digit_value (xs ++ ys)) ≡ number_from_digits_after 10 (number_from_digits 10 (map digit_value xs)) (map digit_value ys) =
-    ap (number_from_digits 10) (map-append digit_value xs ys) ∙ number_after_append 10 0 (map digit_value xs) (map digit_value ys) in
-    let g : number_from_digits 10 (map digit_value xs) ≤ number_from_digits_after 10 (number_from_digits 10 (map digit_value xs)) (map digit_value ys) = number_after_ge 10 (number_from_digits 10 (map digit_value xs)) (map digit_value ys) (omega arith) in
-    omega arith
-
 large_not : (bs : List ℕ) (i : ℕ) → 2 ^ 32 ≤ digits_value 10 (take i bs) → (n : ℕ) → Writes a_number n bs → ⊥
 large_not bs i l n h =
-    let f : digits_value 10 (take i bs) ≤ digits_value 10 (take i bs ++ drop i bs) = front_le (take i bs) (drop i bs) in
-    let g : digits_value 10 (take i bs ++ drop i bs) ≡ digits_value 10 bs = ap (digits_value 10) (take-append-drop i bs) in
     let k : digits_value 10 bs ≡ n = ap (digits_value 10) h.1 ∙ digits_value-decimal own n (wide n h.0) in
-    omega arith
+    omega (arith, digits_value-take-le 10 bs i (omega arith), k, h.0)
 
 -- one digit more
 more : (bs : List ℕ) (i v d : ℕ) → i < length bs → v ≡ digits_value 10 (take i bs) → d ≡ digit_value (get_or bs i 0) → v * 10 + d ≡ digits_value 10 (take (i + 1) bs)

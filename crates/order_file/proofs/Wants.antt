@@ -28,10 +28,6 @@ after [] vs (p ∷ ps) qs f g a = absurd g
 after (w ∷ ws) vs [] qs f g a = absurd g
 after (w ∷ ws) vs (p ∷ ps) qs f g a = inr (g.0, after ws vs ps qs f g.1 a)
 
--- field by field, what is read is what stands there
-pub also : {p q : List ℕ} {ps qs : List (List ℕ)} → p ≡ q → qs ≡ ps → q ∷ qs ≡ p ∷ ps
-also e es = cc
-
 -- at the exit of a `?`: what holds of the error that is passed on
 pub passed_on : {X : Type 0} (P : Result X Fault → Type 0) (r : Result X Fault) (f : Fault) → IsErrAnd r (λ y. y ≡ f) → P (Err f) → P r
 passed_on P r f e a = let p = err_from_is_err_and r e in rw (p.1, p.2) a
