@@ -54,10 +54,10 @@ abbrev pub cut : List ℕ → List (List ℕ)
 cut [] = [] ∷ []
 cut (b ∷ bs) = cond (b == 32) ([] ∷ cut bs) (onto b (cut bs))
 
--- the next field, which has others after it, and what is left of the line then
+-- the next field, which has others after it, and what is left of the line then; at a fault the same is left as before
 abbrev pub NextField : Fields → Result Part Fault → Fields → Type 0
 NextField old (Ok p) new = (cut old.rest.now ≡ text p ∷ cut new.rest.now) × (p.place ≡ old.place) × (new.place ≡ record { line = old.place.line; field = old.place.field + 1 })
-NextField old (Err f) new = (cut old.rest.now ≡ old.rest.now ∷ []) × (f ≡ bad_line old.place.line)
+NextField old (Err f) new = (cut old.rest.now ≡ old.rest.now ∷ []) × (f ≡ bad_line old.place.line) × (new ≡ old)
 
 -- the last field, which is all that is left of the line
 abbrev pub LastField : Fields → Result Part Fault → Type 0
