@@ -6,11 +6,21 @@ ghost use Rattle.book.specs.Houses.{Makes};
 use crate::book::Book;
 use crate::passes::Ready;
 use std::alloc::{AllocError, Global};
+use std::marker::Model;
 
 // How many books the house has made: the number of the last.
 #[derive(Drop)]
 pub struct House {
     made: u32,
+}
+
+// Clauses see that number.
+impl Model for House {
+    ghost use Rattle.std.specs.Prelude.{ℕ};
+
+    ghost Value = { ℕ };
+
+    ghost view = { λ h. h.made };
 }
 
 // Why no book is made.
@@ -31,7 +41,7 @@ impl From<AllocError> for NotMade {
 impl House {
     // A house that has made no book.
     pub fn open() -> House
-        ensures { result.made ≡ 0 }
+        ensures { result ≡ 0 }
     {
         House { made: 0 }
     }

@@ -48,7 +48,7 @@ pub enum ReadError {
     Bad(Fault),
 }
 
-// A cause's number in the file of faults.
+// A cause's number.
 impl From<Cause> for u32 {
     ghost from_gives = { λ c n. n ≡ cause_code c };
 

@@ -111,8 +111,8 @@ impl<'a> Reader<'a> {
         Err(fault)
     }
 
-    #[tactic(auto, unfolding(crate::specs::Files::Moves))]
     // Reads one line and moves on. A fault leaves the reader stopped.
+    #[tactic(auto, unfolding(crate::specs::Files::Moves))]
     fn step(&mut self) -> Result<Option<Instruction>, Fault>
         ensures { Moves self.old.condition self.old.rest.now self.old.line result self.new.condition self.new.rest.now self.new.line }
     {
