@@ -9,6 +9,7 @@ use Rattle.market.specs.Sheets.{sheet}
 use Rattle.resting.specs.Orders.{state_of}
 use Rattle.resting.specs.declared.orders.OpenOrders.{OpenOrders}
 
+-- all that a comparison covers
 abbrev pub sheet_of : OpenOrders → State
 sheet_of o = sheet (state_of o)
 

@@ -46,7 +46,7 @@ impl OpenOrders {
         ours.map(on_route_list).eq(theirs.map(on_route_list))
     }
 
-    // Whether the rank sheets, the route lists and the next numbers are the same.
+    // Whether two are equal, in the words of the model.
     pub fn equals(&self, other: &OpenOrders) -> bool
         ensures { Decides result (Equal (state_of self.now) (state_of other.now)) }
     {
@@ -54,7 +54,7 @@ impl OpenOrders {
     }
 }
 
-// Two are equal where these are the same, whatever else differs.
+// Two are equal where their rank sheets, route lists and next numbers are, whatever else differs.
 impl PartialEq for OpenOrders {
     ghost eq = { same_sheet };
 
