@@ -21,14 +21,10 @@ longer_none : (x : Result (Vec Line Global) AllocError) → Longer [] x x
 longer_none (Ok v) = sym (append-nil (map told_of v.items))
 longer_none (Err e) = tt
 
-longer_told : (l m : List Told) (x y : Result (Vec Line Global) AllocError) → IfOk x (λ v. map told_of v.items ≡ l) → Longer m x y → IfOk y (λ v. map told_of v.items ≡ l ++ m)
-longer_told l m x (Err e) f g = tt
-longer_told l m (Err e) (Ok w) f g = absurd g
-longer_told l m (Ok v) (Ok w) f g = g ∙ ap (λ k. k ++ m) f
-
-empty_told : (x : Result (Vec Line Global) AllocError) → IsOkAnd x (λ v. v.items ≡ []) → IfOk x (λ v. map told_of v.items ≡ [])
-empty_told (Err e) f = tt
-empty_told (Ok v) f = ap (map told_of) f
+longer_all : (l : List Told) (x y : Result (Vec Line Global) AllocError) → IsOkAnd x (λ v. v.items ≡ []) → Longer l x y → IfOk y (λ v. map told_of v.items ≡ l)
+longer_all l x (Err e) f g = tt
+longer_all l (Err e) (Ok w) f g = absurd g
+longer_all l (Ok v) (Ok w) f g = g ∙ ap (λ k. map told_of k ++ l) f
 
 pub noted_on : (l m : List Told) (r r' r'' : Record) → Noted l r r' → Noted m r' r'' → Noted (l ++ m) r r''
 noted_on l m r r' r'' f g = longer_on l m r.lines r'.lines r''.lines f g
@@ -36,8 +32,6 @@ noted_on l m r r' r'' f g = longer_on l m r.lines r'.lines r''.lines f g
 pub noted_none : (r : Record) → Noted [] r r
 noted_none r = longer_none r.lines
 
-pub tells_on : (l m : List Told) (r r' : Record) → Tells r l → Noted m r r' → Tells r' (l ++ m)
-tells_on l m r r' f g = longer_told l m r.lines r'.lines f g
-
-pub tells_none : (r : Record) → IsOkAnd r.lines (λ v. v.items ≡ []) → Tells r []
-tells_none r f = empty_told r.lines f
+-- what is noted from the start is all that the record tells
+pub tells_all : (l : List Told) (r r' : Record) → IsOkAnd r.lines (λ v. v.items ≡ []) → Noted l r r' → Tells r' l
+tells_all l r r' f g = longer_all l r.lines r'.lines f g
