@@ -38,12 +38,11 @@ pub fn run(instructions: &[Instruction], heap: Global) -> Result<DayRun, AllocEr
     for i in instructions {
         stage = desk.follow(stage, *i);
     }
-    let Desk {
-        book,
-        board: _,
-        log,
-    } = desk;
-    Ok(DayRun { book, stage, log })
+    Ok(DayRun {
+        book: desk.book,
+        stage,
+        log: desk.log,
+    })
 }
 
 // Runs the day and gives its record; the book is let go.

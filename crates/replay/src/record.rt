@@ -40,10 +40,10 @@ impl Record {
     pub fn note(&mut self, line: Line)
         ensures { Noted (told_of line ∷ []) self.old self.new }
     {
-        if let Ok(lines) = &mut self.lines {
-            if let Err(refused) = lines.push(line) {
-                self.lines = Err(refused.into());
-            }
+        if let Ok(lines) = &mut self.lines
+            && let Err(refused) = lines.push(line)
+        {
+            self.lines = Err(refused.into());
         }
     }
 
