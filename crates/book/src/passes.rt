@@ -1,4 +1,5 @@
-// The passes: who may call next. None is copied or dropped, so each is handed on once.
+// The passes: who may call next. None is copied or dropped, so each is handed on once. Ready and Ended hold the same, and are two types
+// because they admit different calls: one type with a parameter for the state would say no more.
 ghost use Rattle.std.specs.Prelude.{◌≡◌, true, IfSome};
 ghost use Rattle.market.specs.Calls.{held_by};
 ghost use Rattle.market.specs.Sound.{able};
@@ -22,7 +23,7 @@ pub struct Ended {
     pub(crate) book: u32,
 }
 
-// The pass once an order was worked, or a route came back.
+// The pass once an order was worked, or a route came back. Both cases hold a pass and neither is a failure, so this is no Result.
 pub enum Next {
     // No share is in hand.
     Done(Ready),

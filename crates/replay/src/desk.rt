@@ -10,7 +10,7 @@ use market::types::{Quotation, Refusal, Side, Terms};
 use order_file::instructions::Instruction;
 use table_board::table::TableBoard;
 
-// The pass between two instructions: no order is in hand then.
+// The pass between two instructions: no order is in hand then. Both cases hold a pass and neither is a failure, so this is no Result.
 pub enum Stage {
     Open(Ready),
     Over(Ended),

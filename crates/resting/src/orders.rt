@@ -19,6 +19,7 @@ pub(crate) type RestingList = RankedList<Resting, 256>;
 pub struct OpenOrders {
     sides: Sides<RestingList>,
     routes: RankedList<Route, 64>,
+    // 0 says that all numbers are used up. As an Option this would have two values for that, None and Some(0).
     next: u32,
     ghost sound: { Sound (state (lines_of sides.buy) (lines_of sides.sell) (lines_of routes) next) },
 }
