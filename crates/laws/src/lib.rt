@@ -9,23 +9,21 @@ ghost use Rattle.laws.specs.Conserve.{SharesConserved};
 ghost use Rattle.laws.specs.Priority.{TimePriority};
 
 // Two books are equal exactly when no further string of calls tells them apart.
-pub fn equal_exactly() -> u8
+pub fn equal_exactly()
     ensures alike { EqualAnswerAlike }
     ensures apart { EqualOrToldApart }
     ensures exactly { EqualExactly }
 {
-    0
 }
 
 // Every call does one of the things that can happen, and nothing else.
-pub fn nothing_else_happens() -> u8
+pub fn nothing_else_happens()
     ensures { NothingElse }
 {
-    0
 }
 
 // Every call deals fairly: what its reports say of the board, of prices and of what is left in hand holds, and a refusal changes nothing.
-pub fn calls_deal_fairly() -> u8
+pub fn calls_deal_fairly()
     ensures sent { SentWithin }
     ensures board { BoardElseUnmoved }
     ensures through { NoTradeThrough }
@@ -33,26 +31,22 @@ pub fn calls_deal_fairly() -> u8
     ensures refusals { RefusalsChangeNothing }
     ensures refused { RefusedExactly }
 {
-    0
 }
 
 // Every book that is reached from a new one is sound.
-pub fn reached_sound() -> u8
+pub fn reached_sound()
     ensures { ReachedSound }
 {
-    0
 }
 
 // No share is lost, from a new book through any calls.
-pub fn shares_conserved() -> u8
+pub fn shares_conserved()
     ensures { SharesConserved }
 {
-    0
 }
 
 // From a new book through any calls, no trade takes a latecomer while an earlier order at its side and price is still there.
-pub fn time_priority() -> u8
+pub fn time_priority()
     ensures { TimePriority }
 {
-    0
 }
