@@ -12,7 +12,7 @@ use Rattle.market.specs.declared.types.Call.{Call}
 use Rattle.market.specs.Sides.{across_of, ahead, resting_before}
 use Rattle.market.specs.States.{State, Quotes, new_state, on, put}
 use Rattle.market.specs.Orders.{less, refresh, trimmed, settled, traded, rested}
-use Rattle.market.specs.Reports.{held_of as told_held, other_of, rest_report}
+use Rattle.market.specs.Reports.{held_told, other_told, rest_report}
 use Rattle.market.specs.Calls.{Pass, ready, Outcome, call}
 use Rattle.soundness.specs.Stands.{Among as AmongLines}
 use Rattle.laws.specs.Strings.{Turn, does, state_after, pass_after}
@@ -266,7 +266,7 @@ StandsFirm s r = r.what ≡ Rest 0 → Firm r.side r.number r.price r.shares [] 
 pub rest_firm : (s : State) (q : Quotes) {c : Call} {p : Pass} {o : Outcome} → Happens s q c p o → Each is_rest (StandsFirm o.state) o.says
 rest_firm s q (resting {o = o} f z) =
     alone (rest_report o)
-    (λ e. let none : (rested o).held ≡ 0 = ap told_held e in rw (put_here o.side (place (resting_before o.side) (rested o) (on o.side s)) s) (firm_new o.side (rested o) (on o.side s) (fits_absent o.number s o.side f) none))
+    (λ e. let none : (rested o).held ≡ 0 = ap held_told e in rw (put_here o.side (place (resting_before o.side) (rested o) (on o.side s)) s) (firm_new o.side (rested o) (on o.side s) (fits_absent o.number s o.side f) none))
 rest_firm s q (refusal why z) = silent is_rest refl
 rest_firm s q (trading y g f z) = silent is_rest refl
 rest_firm s q (sending y g z) = silent is_rest refl
@@ -297,4 +297,4 @@ time_priority_lem n ts₀ t ts u r x m rests bare stays trades is_x across price
     let y = no_trade_through u.quotes u.call s₂ p₂ x m trades is_x in
     let e : across_of y.order.side ≡ d = ap across_of (sym y.told.0) ∙ across in
     firm_first d r.number r.price f₂.0 (latecomers d [] ts s₁ p₁) y.taken (on d s₂) (rw e at y.first) f₂.1
-    (sym y.told.1 ∙ price) (subst (λ (i : ℕ). InList i (latecomers d [] ts s₁ p₁)) (ap other_of (sym is_x ∙ y.told.2)) late)
+    (sym y.told.1 ∙ price) (subst (λ (i : ℕ). InList i (latecomers d [] ts s₁ p₁)) (ap other_told (sym is_x ∙ y.told.2)) late)

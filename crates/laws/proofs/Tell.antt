@@ -18,7 +18,7 @@ use Rattle.market.specs.declared.types.Call.TheVariants.{Work, Cancel, Reply}
 use Rattle.market.specs.Sides.{across_of}
 use Rattle.market.specs.States.{State, state, no_quotes, on, put, numbered, resting_bears, route_bears}
 use Rattle.market.specs.Orders.{total, next_show, returned}
-use Rattle.market.specs.Reports.{refusal_number, held_of, other_of, trade_report, back_report}
+use Rattle.market.specs.Reports.{refusal_number, held_told, other_told, trade_report, back_report}
 use Rattle.market.specs.Calls.{Pass, ready, ended, in_hand, Says, reports, refused, Outcome, refuse, hand_back, reply_at}
 use Rattle.market.specs.Sound.{resting_fair, Sound}
 use Rattle.laws.specs.Strings.{does}
@@ -192,7 +192,7 @@ module _ (d : Side) (s s' : State) (g : Ground d s) (g' : Ground d s') (two : s.
   -- the first orders of the two sides, once what stands behind them is judged
   firsts : (a a' : Resting) (xs ys : List Resting) → Row s.next os (a ∷ xs) → Row s'.next os' (a' ∷ ys) → (map line xs ≡ map line ys) ⊎ Told (length xs + 3) (put d xs s) ready (put d ys s') ready → (map line (a ∷ xs) ≡ map line (a' ∷ ys)) ⊎ Told (length (a ∷ xs) + 3) (put d (a ∷ xs) s) ready (put d (a' ∷ ys) s') ready
   firsts a a' xs ys r r' behind =
-      met (λ z. other_of z.what) >>= λ n.
+      met (λ z. other_told z.what) >>= λ n.
       met (λ z. z.price) >>= λ p.
       met (λ z. z.shares) >>= λ m.
       let z : a.shown + a.held ≤ 999999 = r.0.size in
@@ -347,8 +347,8 @@ module _ (s s' : State) where
       reads (of_report (λ z. z.user)) >>= λ u.
       reads (of_report (λ z. side_number z.side)) >>= λ d.
       reads (of_report (λ z. z.price)) >>= λ p.
-      reads (of_report (λ z. other_of z.what)) >>= λ v.
-      reads (of_report (λ z. held_of z.what)) >>= λ m.
+      reads (of_report (λ z. other_told z.what)) >>= λ v.
+      reads (of_report (λ z. held_told z.what)) >>= λ m.
       reads (λ a. of_hand (λ z. z.limit) a.pass) >>= λ l.
       reads (λ a. of_hand (λ z. z.show) a.pass) >>= λ w.
       let m' : r.out - 0 ≡ r'.out - 0 = m in

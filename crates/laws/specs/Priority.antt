@@ -115,7 +115,7 @@ InList m [] = ⊥
 InList m (k ∷ ks) = (k ≡ m) ⊎ InList m ks
 
 -- THE LAW. From a new book, after any calls ts₀: a call reports that an order comes to rest (r) with nothing held back; then come any calls ts
--- by which it is not gone; then a call reports a trade (x) with the resting order m, at its side and price. The order m is none that came to
+-- by which it is not gone; then a call reports a trade (x) with the resting order m, at r's side and price. The order m is none that came to
 -- rest or was refreshed during ts. (The order r itself is none of these: nothing held is never refreshed, and what stands does not come to rest.)
 abbrev pub TimePriority : Type 0
 TimePriority =

@@ -13,14 +13,12 @@ pub fn equal_exactly()
     ensures alike { EqualAnswerAlike }
     ensures apart { EqualOrToldApart }
     ensures exactly { EqualExactly }
-{
-}
+{}
 
 // Every call does one of the things that can happen, and nothing else.
 pub fn nothing_else_happens()
     ensures { NothingElse }
-{
-}
+{}
 
 // Every call deals fairly: what its reports say of the board, of prices and of what is left in hand holds, and a refusal changes nothing.
 pub fn calls_deal_fairly()
@@ -30,23 +28,19 @@ pub fn calls_deal_fairly()
     ensures remainder { RemainderNeverGrows }
     ensures refusals { RefusalsChangeNothing }
     ensures refused { RefusedExactly }
-{
-}
+{}
 
 // Every book that is reached from a new one is sound.
 pub fn reached_sound()
     ensures { ReachedSound }
-{
-}
+{}
 
 // No share is lost, from a new book through any calls.
 pub fn shares_conserved()
     ensures { SharesConserved }
-{
-}
+{}
 
 // From a new book through any calls, no trade takes a latecomer while an earlier order at its side and price is still there.
 pub fn time_priority()
     ensures { TimePriority }
-{
-}
+{}

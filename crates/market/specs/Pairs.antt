@@ -9,6 +9,6 @@ use Rattle.market.specs.Sides.{pick}
 abbrev pub with_side : {X : Type 0} → Side → Sides X → X → Sides X
 with_side d s x = record { buy = pick d x s.buy; sell = pick d s.sell x }
 
--- s ends with the value of the side that is last behind r
+-- once the loan r ends, s has on the side d what r was left with, and its other side as it was
 abbrev pub LendsSide : (T : RattleType) → Side → MutBor (Sides T.Denot) → MutBor T.Denot → Fml
 LendsSide T d s r = Lends (the_row T) T s r (with_side d s.now)

@@ -40,26 +40,26 @@ refusal_number NoSuchLine = 12
 refusal_number NothingResting = 13
 refusal_number NoPass = 47
 
--- a report has number, user, side, price, shares, held and other. The last two come with what it tells of: one that is not named is 0, and
--- such a one alone is written as -
+-- a report has number, user, side, price, shares, held and other. The last two are borne by what it tells of: a kind that does not
+-- bear one has 0 here, and then alone the line has -
 
 -- held: the shares held back by an order that comes to rest, or left unfilled by a reply
-abbrev pub held_of : What → ℕ
-held_of In = 0
-held_of (Trade n) = 0
-held_of (Sent v) = 0
-held_of (Rest held) = held
-held_of (Off why) = 0
-held_of (Back unfilled v) = unfilled
+abbrev pub held_told : What → ℕ
+held_told In = 0
+held_told (Trade n) = 0
+held_told (Sent v) = 0
+held_told (Rest held) = held
+held_told (Off why) = 0
+held_told (Back unfilled v) = unfilled
 
 -- other: the resting number of a trade, the venue of a send or a reply, the reason of a take-off
-abbrev pub other_of : What → ℕ
-other_of In = 0
-other_of (Trade n) = n
-other_of (Sent venue) = venue
-other_of (Rest held) = 0
-other_of (Off why) = reason_number why
-other_of (Back unfilled venue) = venue
+abbrev pub other_told : What → ℕ
+other_told In = 0
+other_told (Trade n) = n
+other_told (Sent venue) = venue
+other_told (Rest held) = 0
+other_told (Off why) = reason_number why
+other_told (Back unfilled venue) = venue
 
 -- accepted: the limit and the size
 abbrev pub in_report : Order → Report

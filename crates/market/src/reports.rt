@@ -1,6 +1,6 @@
 // How sides, kinds, reports and refusals are written.
 ghost use Rattle.std.specs.Prelude.{◌≡◌, ℕ, ◌∷◌, ◌++◌, Some, decimal};
-ghost use Rattle.market.specs.Reports.{refusal_number, held_of, other_of};
+ghost use Rattle.market.specs.Reports.{refusal_number, held_told, other_told};
 ghost use Rattle.market.specs.Written.{side_word, kind_word, what_word, report_line, refusal_line};
 
 use crate::types::{Kind, Refusal, Report, Side, What};
@@ -48,7 +48,7 @@ impl fmt::Display for What {
 impl Report {
     // The shares held back by an order that comes to rest, or left unfilled by a reply; else 0.
     pub fn held(&self) -> u32
-        ensures { result ≡ held_of self.now.what }
+        ensures { result ≡ held_told self.now.what }
     {
         match self.what {
             What::Rest { held } => held,
@@ -59,7 +59,7 @@ impl Report {
 
     // The resting number of a trade, the venue of a send or a reply, the reason's number of a take-off; else 0.
     pub fn other(&self) -> u32
-        ensures { result ≡ other_of self.now.what }
+        ensures { result ≡ other_told self.now.what }
     {
         match self.what {
             What::Trade { resting } => resting,

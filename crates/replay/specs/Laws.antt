@@ -62,7 +62,7 @@ pub record Conserves (turns : List Turn) (told : List Told) (book : State) (pass
   pub after_each_call : (ts us : List Turn) → turns ≡ ts ++ us → Accounted (reports_by ts) (book_after ts) (pass_then ts)
 
 -- TIME PRIORITY: the session's calls are ts₀, t, ts, u and us; t reports that an order comes to rest (r) with nothing held back; by ts
--- it is not gone; u reports a trade (x) with the resting order m, at its side and price. The order m is none that came to rest or was
+-- it is not gone; u reports a trade (x) with the resting order m, at r's side and price. The order m is none that came to rest or was
 -- refreshed during ts.
 abbrev pub KeepsPriority : List Turn → Type 0
 KeepsPriority turns =

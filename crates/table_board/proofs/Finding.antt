@@ -1,12 +1,22 @@
 -- What a search for a venue's line says of the lists that a take and a quote leave.
-use Rattle.std.proofs.Common.{◌≡◌, ℕ, ◌+◌, ◌-◌, ◌<◌, true, false, cond, eqb, List, [], ◌∷◌, ◌++◌, length, get_or, take, drop, set, Some, None, Option, sym, refl, ap, ◌∙◌, add-one}
+use Rattle.std.proofs.Common.{◌≡◌, ℕ, ◌+◌, ◌-◌, ◌<◌, true, false, cond, eqb, List, [], ◌∷◌, ◌++◌, length, get_or, take, drop, set, Some, None, Ok, Err, Option, sym, refl, ap, ◌∙◌, arith, add-one}
 use Rattle.std.specs.List.{remove}
+use Rattle.std.specs.Option.{ok_or}
 use Rattle.std.proofs.lemmas.List.{set_split, set-get_or}
 use Rattle.std.proofs.lemmas.Bool.{cond-true, cond-false, eq-eqb, ne_eqb}
 use Rattle.ranking.specs.Place.{Spot, past, locate, spot_at}
 use Rattle.market.specs.declared.types.Quotation.{Quotation}
 use Rattle.market.specs.States.{venue_is}
 use Rattle.market.specs.Quotes.{size_at, resized, lessened, without}
+
+-- what a search answered, by what ok_or makes of it
+pub none_of : {X E : Type 0} (r : Option X) (why w : E) → Err w ≡ ok_or r why → (r ≡ None) × (w ≡ why)
+none_of None why w h = let same : w ≡ why = cc in (refl, same)
+none_of (Some x) why w h = grind arith
+
+pub some_of : {X E : Type 0} (r : Option X) (why : E) (x : X) → Ok x ≡ ok_or r why → r ≡ Some x
+some_of None why x h = grind arith
+some_of (Some y) why x h = let same : x ≡ y = cc in ap Some (sym same)
 
 -- the size of the line that was found, and the lists without it and with it lessened
 abbrev size_in : Option (Spot Quotation) → ℕ

@@ -20,9 +20,7 @@ fn find_line(lines: &QuotationList, venue: u32) -> Option<usize>
 pub fn take_from(lines: &mut QuotationList, venue: u32, shares: u32) -> Result<(), Refusal>
     ensures { TakenFrom venue shares (lines_of lines.old) (lines_of lines.new) result }
 {
-    let Some(place) = find_line(lines, venue) else {
-        return Err(Refusal::NoSuchLine);
-    };
+    let place = find_line(lines, venue).ok_or(Refusal::NoSuchLine)?;
     let line = lines.line_mut(place);
     if shares == 0 || line.size < shares {
         return Err(Refusal::NoSuchLine);
