@@ -3,7 +3,6 @@ ghost use Rattle.std.specs.Prelude.{◌≡◌, ◌≤◌};
 ghost use Rattle.market.specs.Reports.{in_report, trade_report, sent_report, rest_report, off_report, off_hand, back_report};
 
 use market::types::{Order, Quotation, Reason, Report, Resting, Route, Side, What};
-use resting::shares::to_rest;
 
 pub(crate) fn in_report_of(o: Order) -> Report
     ensures { result ≡ in_report o }
@@ -47,7 +46,7 @@ pub(crate) fn sent_report_of(o: Order, q: Quotation, number: u32, k: u32) -> Rep
 pub(crate) fn rest_report_of(o: Order) -> Report
     ensures { result ≡ rest_report o }
 {
-    let p = to_rest(o);
+    let p = Resting::from(o);
     Report {
         what: What::Rest { held: p.held },
         number: o.number,

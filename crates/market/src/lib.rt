@@ -5,5 +5,6 @@ pub mod legal;
 pub mod ranks;
 pub mod refusals;
 pub mod reports;
+pub mod shares;
 pub mod sides;
 pub mod types;

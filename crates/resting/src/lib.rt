@@ -2,5 +2,4 @@
 #![tactic(auto)]
 
 pub mod orders;
-pub mod shares;
 pub mod sides;

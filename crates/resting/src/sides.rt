@@ -5,7 +5,6 @@ ghost use Rattle.market.specs.Orders.{traded};
 ghost use Rattle.resting.specs.Sides.{first_shown, less_first, settle_first, trim_at, total_at};
 
 use crate::orders::RestingList;
-use crate::shares::{is_due, refreshed};
 use market::types::Side;
 
 // Lessens the first order where it rests.
@@ -23,9 +22,9 @@ fn settle(list: &mut RestingList, side: Side)
     ensures { lines_of list.new ≡ settle_first side (lines_of list.old) }
 {
     if let Some(first) = list.first() {
-        if is_due(first) {
+        if first.is_due() {
             list.remove(0);
-            list.insert(&side, refreshed(first));
+            list.insert(&side, first.refreshed());
         } else if first.shown == 0 {
             list.remove(0);
         }

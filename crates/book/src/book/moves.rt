@@ -11,7 +11,6 @@ use super::Book;
 use crate::reports::{in_report_of, off_report_of};
 use market::types::{Order, Reason, Refusal, Report, Side, Terms};
 use resting::orders::looks::Standing;
-use resting::shares::to_hand;
 
 impl Book {
     // Whether a pass that bears this number is the book's own.
@@ -43,7 +42,7 @@ impl Book {
         ensures { Admits side t self.old self.new result }
     {
         let number = self.orders.take_number();
-        let order = to_hand(side, t, number);
+        let order = Order::entered(side, t, number);
         (order, in_report_of(order))
     }
 }

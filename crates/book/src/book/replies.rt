@@ -11,7 +11,6 @@ use super::Book;
 use crate::passes::{Ended, Next, Ready, Refused};
 use crate::reports::{back_report_of, off_hand_report};
 use market::types::{Order, Reason, Refusal, Report};
-use resting::shares::come_back;
 
 impl Book {
     // A reply with a pass that bears this number: its report, and the shares that come back, if any.
@@ -34,7 +33,7 @@ impl Book {
         if filled == route.out {
             return Ok((report, None));
         }
-        Ok((report, Some(come_back(route, filled))))
+        Ok((report, Some(route.come_back(filled))))
     }
 
     // Ends a route of which so many shares were filled. The others come back in hand.

@@ -18,7 +18,6 @@ use crate::reports::{off_hand_report, rest_report_of, sent_report_of, trade_repo
 use board::Board;
 use board::looks::{first_better, first_line};
 use market::types::{Kind, Move, Order, Quotation, Reason, Refusal, Report, Resting};
-use resting::shares::{left_of, to_rest};
 
 // Rules 3 to 6: what becomes of an order that neither trades nor is sent.
 fn ending(near: bool, full: bool, kind: Kind) -> Move
@@ -87,7 +86,7 @@ impl Book {
     {
         let k = o.shares.min(shown);
         self.orders.trade(o.side.across(), k);
-        (trade_report_of(o, number, price, k), left_of(o, k))
+        (trade_report_of(o, number, price, k), o.remaining_after(k))
     }
 
     // The board's line is lessened, and a route is opened, by the same shares.
@@ -106,7 +105,7 @@ impl Book {
         let k = o.shares.min(q.size);
         let _ = board.take(o.side.across(), q.venue, k);
         let number = self.orders.open_route(o, q, k);
-        (sent_report_of(o, q, number, k), left_of(o, k))
+        (sent_report_of(o, q, number, k), o.remaining_after(k))
     }
 
     fn rest(&mut self, hand: &InHand) -> (Report, Option<Order>)
@@ -116,7 +115,7 @@ impl Book {
         ensures { Did (act Rest (book_state self.old) no_quotes hand.now.order) self.old self.new no_quotes result }
     {
         let o = hand.order;
-        self.orders.rest(o.side, to_rest(o));
+        self.orders.rest(o.side, Resting::from(o));
         (rest_report_of(o), None)
     }
 

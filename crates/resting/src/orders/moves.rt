@@ -11,7 +11,6 @@ ghost use Rattle.resting.specs.Sides.{first_shown, total_at};
 ghost use Rattle.resting.specs.Orders.{state_of, sent_out, at_place};
 
 use super::OpenOrders;
-use crate::shares::to_route;
 use crate::sides::{trade_first, trim_line};
 use market::legal::number_after;
 use market::ranks::ByNumber;
@@ -74,7 +73,7 @@ impl OpenOrders {
     {
         let number = self.next;
         self.next = number_after(number);
-        self.routes.insert(&ByNumber, to_route(o, q, number, k));
+        self.routes.insert(&ByNumber, o.to_route(q, number, k));
         number
     }
 

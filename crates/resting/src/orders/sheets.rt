@@ -10,7 +10,6 @@ ghost use Rattle.market.specs.contracts.types.RestingPartialEq.TheImpl.Laws as r
 ghost use Rattle.market.specs.contracts.types.RoutePartialEq.TheImpl.Laws as route;
 
 use super::OpenOrders;
-use crate::shares::{on_route_list, on_sheet};
 use market::types::{Resting, Route, Side};
 
 impl OpenOrders {
@@ -18,14 +17,14 @@ impl OpenOrders {
     pub fn sheet_line(&self, side: Side, place: usize) -> Option<Resting>
         ensures { result ≡ slice_get (on side (sheet (state_of self.now))) place }
     {
-        self.line_on(side, place).map(on_sheet)
+        self.line_on(side, place).map(Resting::on_sheet)
     }
 
     // A line of the route list, or none past the end. Its show is at most the shares out.
     pub fn listed_route(&self, place: usize) -> Option<Route>
         ensures { result ≡ slice_get (sheet (state_of self.now)).routes place }
     {
-        self.route_line(place).map(on_route_list)
+        self.route_line(place).map(Route::on_list)
     }
 
     // Whether a side of the rank sheet is the same.
@@ -34,7 +33,8 @@ impl OpenOrders {
     {
         let ours = self.sides.on(side).as_slice().iter().copied();
         let theirs = other.sides.on(side).as_slice().iter().copied();
-        ours.map(on_sheet).eq(theirs.map(on_sheet))
+        ours.map(Resting::on_sheet)
+            .eq(theirs.map(Resting::on_sheet))
     }
 
     // Whether the route list is the same.
@@ -43,7 +43,7 @@ impl OpenOrders {
     {
         let ours = self.routes.as_slice().iter().copied();
         let theirs = other.routes.as_slice().iter().copied();
-        ours.map(on_route_list).eq(theirs.map(on_route_list))
+        ours.map(Route::on_list).eq(theirs.map(Route::on_list))
     }
 
     // Whether two are equal, in the words of the model.
