@@ -5,4 +5,3 @@ pub mod book;
 mod checks;
 pub mod house;
 pub mod passes;
-mod reports;

@@ -1,9 +1,9 @@
-// How sides, kinds, reports and refusals are written.
-ghost use Rattle.std.specs.Prelude.{◌≡◌, ℕ, ◌∷◌, ◌++◌, Some, decimal};
-ghost use Rattle.market.specs.Reports.{refusal_number, held_told, other_told};
+// What each report tells, and how sides, kinds, reports and refusals are written.
+ghost use Rattle.std.specs.Prelude.{◌≡◌, ◌≤◌, ℕ, ◌∷◌, ◌++◌, Some, decimal};
+ghost use Rattle.market.specs.Reports.{refusal_number, held_told, other_told, in_report, trade_report, sent_report, rest_report, off_report, off_hand, back_report};
 ghost use Rattle.market.specs.Written.{side_word, kind_word, what_word, report_line, refusal_line};
 
-use crate::types::{Kind, Refusal, Report, Side, What};
+use crate::types::{Kind, Order, Quotation, Reason, Refusal, Report, Resting, Route, Side, What};
 use std::fmt;
 
 impl fmt::Display for Side {
@@ -46,6 +46,105 @@ impl fmt::Display for What {
 }
 
 impl Report {
+    // An order was accepted.
+    pub fn entered(o: Order) -> Report
+        ensures { result ≡ in_report o }
+    {
+        Report {
+            what: What::In,
+            number: o.number,
+            user: o.user,
+            side: o.side,
+            price: o.limit,
+            shares: o.shares,
+        }
+    }
+
+    // k shares of the order in hand traded at a price with the resting order of a number.
+    pub fn traded(o: Order, resting: u32, price: u32, k: u32) -> Report
+        ensures { result ≡ trade_report o resting price k }
+    {
+        Report {
+            what: What::Trade { resting },
+            number: o.number,
+            user: o.user,
+            side: o.side,
+            price,
+            shares: k,
+        }
+    }
+
+    // k shares were sent to a quotation under a number of their own.
+    pub fn sent(o: Order, q: Quotation, number: u32, k: u32) -> Report
+        ensures { result ≡ sent_report o q number k }
+    {
+        Report {
+            what: What::Sent { venue: q.venue },
+            number,
+            user: o.user,
+            side: o.side,
+            price: q.price,
+            shares: k,
+        }
+    }
+
+    // The order in hand came to rest.
+    pub fn rested(o: Order) -> Report
+        ensures { result ≡ rest_report o }
+    {
+        let p = Resting::from(o);
+        Report {
+            what: What::Rest { held: p.held },
+            number: o.number,
+            user: o.user,
+            side: o.side,
+            price: o.limit,
+            shares: p.shown,
+        }
+    }
+
+    // k shares of a resting order were taken off.
+    pub fn taken_off(why: Reason, k: u32, side: Side, p: Resting) -> Report
+        ensures { result ≡ off_report why k side p }
+    {
+        Report {
+            what: What::Off(why),
+            number: p.number,
+            user: p.user,
+            side,
+            price: p.price,
+            shares: k,
+        }
+    }
+
+    // All that is in hand was taken off.
+    pub fn off_hand(why: Reason, o: Order) -> Report
+        ensures { result ≡ off_hand why o }
+    {
+        Report {
+            what: What::Off(why),
+            ..Report::entered(o)
+        }
+    }
+
+    // A venue replied that it filled so many shares of a route.
+    pub fn replied(filled: u32, r: Route) -> Report
+        requires { filled ≤ r.out }
+        ensures { result ≡ back_report filled r }
+    {
+        Report {
+            what: What::Back {
+                unfilled: r.out - filled,
+                venue: r.venue,
+            },
+            number: r.number,
+            user: r.user,
+            side: r.side,
+            price: r.price,
+            shares: filled,
+        }
+    }
+
     // The shares held back by an order that comes to rest, or left unfilled by a reply; else 0.
     pub fn held(&self) -> u32
         ensures { result ≡ held_told self.now.what }

@@ -7,7 +7,6 @@ ghost use Rattle.book.specs.Outcomes.{own_call, reported_as};
 
 use super::Book;
 use crate::passes::Ready;
-use crate::reports::off_report_of;
 use market::legal::{is_legal_size, is_legal_user};
 use market::types::{Reason, Refusal, Report};
 
@@ -39,6 +38,6 @@ impl Book {
         let line = self.orders.line_at(at.side, at.place);
         Refusal::CutTooLarge.unless(size < line.shown + line.held)?;
         self.orders.trim(at.side, at.place, size);
-        Ok(off_report_of(Reason::Cut, size, at.side, line))
+        Ok(Report::taken_off(Reason::Cut, size, at.side, line))
     }
 }

@@ -8,7 +8,6 @@ ghost use Rattle.book.specs.Outcomes.{book_state};
 ghost use Rattle.book.specs.Moves.{TakesOff, Admits};
 
 use super::Book;
-use crate::reports::{in_report_of, off_report_of};
 use market::types::{Order, Reason, Refusal, Report, Side, Terms};
 use resting::orders::looks::Standing;
 
@@ -33,7 +32,7 @@ impl Book {
         ensures { TakesOff why at self.old self.new result }
     {
         let line = self.orders.take_out(at.side, at.place);
-        off_report_of(why, line.shown + line.held, at.side, line)
+        Report::taken_off(why, line.shown + line.held, at.side, line)
     }
 
     // Takes an order in hand under the next number.
@@ -43,6 +42,6 @@ impl Book {
     {
         let number = self.orders.take_number();
         let order = Order::entered(side, t, number);
-        (order, in_report_of(order))
+        (order, Report::entered(order))
     }
 }

@@ -9,7 +9,6 @@ ghost use Rattle.book.specs.Moves.{returning, returning_late};
 
 use super::Book;
 use crate::passes::{Ended, Next, Ready, Refused};
-use crate::reports::{back_report_of, off_hand_report};
 use market::types::{Order, Reason, Refusal, Report};
 
 impl Book {
@@ -29,7 +28,7 @@ impl Book {
         let route = self.orders.route_at(place);
         Refusal::ReplyTooLarge.unless(filled <= route.out)?;
         self.orders.end_route(place);
-        let report = back_report_of(filled, route);
+        let report = Report::replied(filled, route);
         if filled == route.out {
             return Ok((report, None));
         }
@@ -64,6 +63,6 @@ impl Book {
         ensures { (q : Quotes) → late_as pass.now.book result self.new q ≡ own_call self.old pass.now.book q (Reply filled number) ended }
     {
         let (report, left) = self.reply_by(pass.book, filled, number)?;
-        Ok((report, left.map(|o| off_hand_report(Reason::Expired, o))))
+        Ok((report, left.map(|o| Report::off_hand(Reason::Expired, o))))
     }
 }

@@ -14,7 +14,6 @@ ghost use Rattle.book.specs.Works.{Did, WorksOn, accepts};
 
 use super::Book;
 use crate::passes::{InHand, Next, Refused};
-use crate::reports::{off_hand_report, rest_report_of, sent_report_of, trade_report_of};
 use board::Board;
 use board::looks::{first_better, first_line};
 use market::types::{Kind, Move, Order, Quotation, Reason, Refusal, Report, Resting};
@@ -86,7 +85,7 @@ impl Book {
     {
         let k = o.shares.min(shown);
         self.orders.trade(o.side.across(), k);
-        (trade_report_of(o, number, price, k), o.remaining_after(k))
+        (Report::traded(o, number, price, k), o.remaining_after(k))
     }
 
     // The board's line is lessened, and a route is opened, by the same shares.
@@ -105,7 +104,7 @@ impl Book {
         let k = o.shares.min(q.size);
         let _ = board.take(o.side.across(), q.venue, k);
         let number = self.orders.open_route(o, q, k);
-        (sent_report_of(o, q, number, k), o.remaining_after(k))
+        (Report::sent(o, q, number, k), o.remaining_after(k))
     }
 
     fn rest(&mut self, hand: &InHand) -> (Report, Option<Order>)
@@ -116,7 +115,7 @@ impl Book {
     {
         let o = hand.order;
         self.orders.rest(o.side, Resting::from(o));
-        (rest_report_of(o), None)
+        (Report::rested(o), None)
     }
 
     // Does what the first rule that applies says: the report, and what is left in hand.
@@ -133,7 +132,7 @@ impl Book {
                 shown,
             } => self.trade(o, number, price, shown),
             Move::Send(q) => self.send(hand, q, board),
-            Move::TakeOff(why) => (off_hand_report(why, o), None),
+            Move::TakeOff(why) => (Report::off_hand(why, o), None),
             Move::Rest => self.rest(hand),
         }
     }

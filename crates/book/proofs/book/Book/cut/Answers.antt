@@ -37,4 +37,4 @@ returns c =
     let s = book_state a.self.now in
     let x = c.line_at-line.result in
     λ q. owned a.self.now _ a.pass.now.book q (Cut a.size a.user a.number) ready _ c.in_ok-owns.ensures refl
-    (cut_done s q a.user a.number c.in_ok-at.at (located a.user a.number s _ _ _ c.in_ok-at.ensures.value c.find.ensures) a.size x (holds_as _ _ User c.in_ok-unless.ensures c.is_legal_user.ensures) (holds_as _ _ Size c.in_ok-unless-2.ensures c.is_legal_size.ensures) (c.line_at-line.ensures.value x) _ _ c.in_ok-unless-3.ensures c.off_report_of.ensures (c.trim.ensures x))
+    (cut_done s q a.user a.number c.in_ok-at.at (located a.user a.number s _ _ _ c.in_ok-at.ensures.value c.find.ensures) a.size x (holds_as _ _ User c.in_ok-unless.ensures c.is_legal_user.ensures) (holds_as _ _ Size c.in_ok-unless-2.ensures c.is_legal_size.ensures) (c.line_at-line.ensures.value x) _ _ c.in_ok-unless-3.ensures c.taken_off.ensures (c.trim.ensures x))

@@ -33,8 +33,8 @@ returns-then-filled-route c =
     let f = found_route a.number s _ _ _ c.in_ok-place.ensures.value c.find_route.ensures in
     let e = c.route_at-route.ensures x in
     record {
-      ready = λ q. owned a.self.now _ a.pass q (Reply a.filled a.number) ready _ c.in_ok-owns.ensures refl (reply_filled s q a.filled a.number c.in_ok-place.place x f e c.in_ok-unless.ensures _ _ c.back_report_of-report.ensures c.end_route.ensures.state c.if-filled-route.true);
-      ended = λ q. owned a.self.now _ a.pass q (Reply a.filled a.number) ended _ c.in_ok-owns.ensures refl (late_filled s q a.filled a.number c.in_ok-place.place x f e c.in_ok-unless.ensures _ _ c.back_report_of-report.ensures c.end_route.ensures.state c.if-filled-route.true);
+      ready = λ q. owned a.self.now _ a.pass q (Reply a.filled a.number) ready _ c.in_ok-owns.ensures refl (reply_filled s q a.filled a.number c.in_ok-place.place x f e c.in_ok-unless.ensures _ _ c.replied-report.ensures c.end_route.ensures.state c.if-filled-route.true);
+      ended = λ q. owned a.self.now _ a.pass q (Reply a.filled a.number) ended _ c.in_ok-owns.ensures refl (late_filled s q a.filled a.number c.in_ok-place.place x f e c.in_ok-unless.ensures _ _ c.replied-report.ensures c.end_route.ensures.state c.if-filled-route.true);
       able = tt;
     }
 
@@ -46,7 +46,7 @@ returns c =
     let f = found_route a.number s _ _ _ c.in_ok-place.ensures.value c.find_route.ensures in
     let e = c.route_at-route.ensures x in
     record {
-      ready = λ q. owned a.self.now _ a.pass q (Reply a.filled a.number) ready _ c.in_ok-owns.ensures refl (reply_returned s q a.filled a.number c.in_ok-place.place x f e c.in_ok-unless.ensures _ _ c.back_report_of-report.ensures c.end_route.ensures.state _ c.if-filled-route.false c.come_back.ensures);
-      ended = λ q. owned a.self.now _ a.pass q (Reply a.filled a.number) ended _ c.in_ok-owns.ensures refl (late_returned s q a.filled a.number c.in_ok-place.place x f e c.in_ok-unless.ensures _ _ c.back_report_of-report.ensures c.end_route.ensures.state _ c.if-filled-route.false c.come_back.ensures);
+      ready = λ q. owned a.self.now _ a.pass q (Reply a.filled a.number) ready _ c.in_ok-owns.ensures refl (reply_returned s q a.filled a.number c.in_ok-place.place x f e c.in_ok-unless.ensures _ _ c.replied-report.ensures c.end_route.ensures.state _ c.if-filled-route.false c.come_back.ensures);
+      ended = λ q. owned a.self.now _ a.pass q (Reply a.filled a.number) ended _ c.in_ok-owns.ensures refl (late_returned s q a.filled a.number c.in_ok-place.place x f e c.in_ok-unless.ensures _ _ c.replied-report.ensures c.end_route.ensures.state _ c.if-filled-route.false c.come_back.ensures);
       able = able_back s a.filled c.in_ok-place.place x _ f.0 e (leb-true _ _ (held _ ReplyTooLarge c.in_ok-unless.ensures)) c.if-filled-route.false c.come_back.ensures a.self.now.orders.sound;
     }
