@@ -39,12 +39,6 @@ sound_put d o l xs e h =
     let P : State → Type 0 = Sound in
     subst P (sym (put_side d o l ∙ ap (λ ys. put d ys (state_of o)) e)) h
 
-pub routed_as : (b s : List Resting) (r r' : List Route) (n n' : ℕ) → r' ≡ r → n' ≡ n → Sound (state b s r n) → Sound (state b s r' n')
-routed_as b s r r' n n' e f h =
-    let P : List Route → Type 0 = λ x. Sound (state b s x n) in
-    let Q : ℕ → Type 0 = λ x. Sound (state b s r' x) in
-    subst Q (sym f) (subst P (sym e) h)
-
 -- the order at a place taken out
 pub sound_removed : (d : Side) (i : ℕ) (x : Resting) (s : State) → i < length (on d s) → Sound s → Sound (put d (remove (on d s) i) s)
 sound_removed d i x s h k =

@@ -23,7 +23,11 @@ sent_out r s = state s.buys s.sells (place route_before r s.routes) (after s.nex
 abbrev pub at_place : Side → ℕ → State → Resting → Place
 at_place d i s x = record { side = d; spot = spot_at (on d s) i x }
 
+-- a resting order stands there
+abbrev pub Stands : Standing → State → Type 0
+Stands w s = w.place < length (on w.side s)
+
 -- where the model finds the order, it stands
 abbrev pub Located : ℕ → ℕ → State → Option Standing → Type 0
 Located user n s None = find user n s ≡ None
-Located user n s (Some w) = (w.place < length (on w.side s)) × ((x : Resting) → find user n s ≡ Some (at_place w.side w.place s x))
+Located user n s (Some w) = Stands w s × ((x : Resting) → find user n s ≡ Some (at_place w.side w.place s x))

@@ -35,9 +35,9 @@ impl Book {
         Refusal::User.unless(is_legal_user(user))?;
         Refusal::Size.unless(is_legal_size(size))?;
         let at = self.orders.find(user, number).ok_or(Refusal::NotResting)?;
-        let line = self.orders.line_at(at.side, at.place);
+        let line = self.orders.line_at(at);
         Refusal::CutTooLarge.unless(size < line.shown + line.held)?;
-        self.orders.trim(at.side, at.place, size);
+        self.orders.trim(at, size);
         Ok(Report::taken_off(Reason::Cut, size, at.side, line))
     }
 }

@@ -1,9 +1,8 @@
 // What several calls do alike: they check whose pass it is, take a resting order off, or take an order in hand.
-ghost use Rattle.std.specs.Prelude.{◌≡◌, ◌==◌, ◌<◌, ◌≢◌, length};
+ghost use Rattle.std.specs.Prelude.{◌≡◌, ◌==◌, ◌≢◌};
 ghost use Rattle.market.specs.declared.types.Refusal.TheVariants.{WrongPass};
-ghost use Rattle.market.specs.States.{on};
 ghost use Rattle.market.specs.Calls.{unless, verdict, numbers_refusal};
-ghost use Rattle.resting.specs.Orders.{at_place};
+ghost use Rattle.resting.specs.Orders.{Stands};
 ghost use Rattle.book.specs.Outcomes.{book_state};
 ghost use Rattle.book.specs.Moves.{TakesOff, Admits};
 
@@ -28,10 +27,10 @@ impl Book {
 
     // Takes the resting order at a place off, with all its shares.
     pub(super) fn take_off(&mut self, why: Reason, at: Standing) -> Report
-        requires { at.place < length (on at.side (book_state self.old)) }
+        requires { Stands at (book_state self.old) }
         ensures { TakesOff why at self.old self.new result }
     {
-        let line = self.orders.take_out(at.side, at.place);
+        let line = self.orders.take_out(at);
         Report::taken_off(why, line.shown + line.held, at.side, line)
     }
 

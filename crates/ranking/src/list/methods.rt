@@ -1,5 +1,5 @@
 // What is done with a ranked list.
-ghost use Rattle.std.specs.Prelude.{◌≡◌, ◌<◌, Bool, true, not, [], length, IfOk, slice_index_or, ◌==◌};
+ghost use Rattle.std.specs.Prelude.{◌≡◌, ◌<◌, Bool, true, not, [], length, IfOk, slice_index_or, ◌==◌, nat_le};
 ghost use Rattle.std.specs.List.{remove, slice_get};
 ghost use Rattle.ranking.specs.Place.{head_of, every, place, behind, in_rank, Found};
 ghost use Rattle.ranking.specs.Lists.{lines_of, store_of, with_line};
@@ -30,6 +30,13 @@ impl<T, const MOST: usize> RankedList<T, MOST> {
         ensures { result ≡ (length (lines_of self.now) == 0) }
     {
         self.lines.is_empty()
+    }
+
+    // Whether it takes no more lines.
+    pub fn is_full(&self) -> bool
+        ensures { result ≡ nat_le MOST (length (lines_of self.now)) }
+    {
+        self.lines.len() >= MOST
     }
 
     // The lines, in rank.

@@ -5,14 +5,14 @@ ghost use Rattle.ranking.specs.Place.{head_of, every, Found};
 ghost use Rattle.market.specs.States.{on, free, fits, owned, resting_bears, route_bears};
 ghost use Rattle.market.specs.Orders.{total};
 ghost use Rattle.market.specs.Steps.{no_route, side_full};
-ghost use Rattle.resting.specs.Orders.{state_of, Located};
+ghost use Rattle.resting.specs.Orders.{state_of, Stands, Located};
 
 use super::OpenOrders;
 use market::legal::was_given;
 use market::types::{Resting, Route, Side};
 
 // Where a resting order stands.
-#[derive(Clone, Copy)]
+#[derive(Clone, Copy, PartialEq, Eq, Debug)]
 pub struct Standing {
     pub side: Side,
     pub place: usize,
@@ -52,13 +52,13 @@ impl OpenOrders {
         self.routes.len()
     }
 
-    // The resting order at a place of a side. Its shares add up to a legal size.
-    pub fn line_at(&self, side: Side, place: usize) -> Resting
-        requires { place < length (on side (state_of self.now)) }
-        ensures value { (d : Resting) → result ≡ slice_index_or (on side (state_of self.now)) place d }
+    // The resting order that stands there. Its shares add up to a legal size.
+    pub fn line_at(&self, at: Standing) -> Resting
+        requires { Stands at (state_of self.now) }
+        ensures value { (d : Resting) → result ≡ slice_index_or (on at.side (state_of self.now)) at.place d }
         ensures few { total result ≤ 999999 }
     {
-        self.sides.on(side).line_at(place)
+        self.sides.on(at.side).line_at(at.place)
     }
 
     // The open route at a place.
@@ -79,14 +79,14 @@ impl OpenOrders {
     pub fn is_full(&self, side: Side) -> bool
         ensures { result ≡ side_full side (state_of self.now) }
     {
-        self.count_on(side) >= 256
+        self.sides.on(side).is_full()
     }
 
     // Whether no route can be opened.
     pub fn has_no_route(&self) -> bool
         ensures { result ≡ no_route (state_of self.now) }
     {
-        self.routes.len() >= 64 || self.next == 0
+        self.routes.is_full() || self.next == 0
     }
 
     // Whether no resting order of a side bears this number.

@@ -8,9 +8,10 @@ ghost use Rattle.market.specs.Calls.{taken_out, changed_to, unrouted};
 ghost use Rattle.market.specs.Sound.{able};
 ghost use Rattle.soundness.specs.Rest.{Restable};
 ghost use Rattle.resting.specs.Sides.{first_shown, total_at};
-ghost use Rattle.resting.specs.Orders.{state_of, sent_out, at_place};
+ghost use Rattle.resting.specs.Orders.{state_of, sent_out, at_place, Stands};
 
 use super::OpenOrders;
+use super::looks::Standing;
 use crate::sides::{trade_first, trim_line};
 use market::legal::number_after;
 use market::ranks::ByNumber;
@@ -71,29 +72,28 @@ impl OpenOrders {
         ensures number { result ≡ (state_of self.old).next }
         ensures state { state_of self.new ≡ sent_out (routed o q (state_of self.old).next k) (state_of self.old) }
     {
-        let number = self.next;
-        self.next = number_after(number);
+        let number = self.take_number();
         self.routes.insert(&ByNumber, o.to_route(q, number, k));
         number
     }
 
-    // Takes the order at a place of a side out. Its shares add up to a legal size.
-    pub fn take_out(&mut self, side: Side, place: usize) -> Resting
-        requires { place < length (on side (state_of self.old)) }
-        ensures value { (d : Resting) → result ≡ slice_index_or (on side (state_of self.old)) place d }
+    // Takes the order that stands there out. Its shares add up to a legal size.
+    pub fn take_out(&mut self, at: Standing) -> Resting
+        requires { Stands at (state_of self.old) }
+        ensures value { (d : Resting) → result ≡ slice_index_or (on at.side (state_of self.old)) at.place d }
         ensures few { total result ≤ 999999 }
-        ensures state { state_of self.new ≡ taken_out (at_place side place (state_of self.old) result) (state_of self.old) }
+        ensures state { state_of self.new ≡ taken_out (at_place at.side at.place (state_of self.old) result) (state_of self.old) }
     {
-        self.sides.on_mut(side).remove(place)
+        self.sides.on_mut(at.side).remove(at.place)
     }
 
-    // Cuts k shares of the order at a place of a side, where it stands.
-    pub fn trim(&mut self, side: Side, place: usize, k: u32)
-        requires place { place < length (on side (state_of self.old)) }
-        requires few { k < total_at place (on side (state_of self.old)) }
-        ensures { (d : Resting) → state_of self.new ≡ changed_to (trimmed k (slice_index_or (on side (state_of self.old)) place d)) (at_place side place (state_of self.old) d) (state_of self.old) }
+    // Cuts k shares of the order that stands there, where it stands.
+    pub fn trim(&mut self, at: Standing, k: u32)
+        requires place { Stands at (state_of self.old) }
+        requires few { k < total_at at.place (on at.side (state_of self.old)) }
+        ensures { (d : Resting) → state_of self.new ≡ changed_to (trimmed k (slice_index_or (on at.side (state_of self.old)) at.place d)) (at_place at.side at.place (state_of self.old) d) (state_of self.old) }
     {
-        trim_line(self.sides.on_mut(side), place, k);
+        trim_line(self.sides.on_mut(at.side), at.place, k);
     }
 
     // Ends the open route at a place.

@@ -4,7 +4,7 @@ use Rattle.resting.proofs.orders.OpenOrders.line_at.Goals as goal
 
 pub returns-clause-few : goal.returns-clause-few
 returns-clause-few c =
-    let d = c.args.side in
+    let d = c.args.at.side in
     let o = c.args.self.now in
     let there = on_side d o c.on.result.now c.on.ensures in
-    few_on d o c.args.place c.line_at.result c.requires (c.line_at.ensures _ ∙ ap (λ xs. get_or xs c.args.place c.line_at.result) there)
+    few_on d o c.args.at.place c.line_at.result c.requires (c.line_at.ensures _ ∙ ap (λ xs. get_or xs c.args.at.place c.line_at.result) there)
