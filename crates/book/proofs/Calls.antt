@@ -1,7 +1,7 @@
 -- Each way through a call gives the outcome that the model defines.
-use Rattle.std.proofs.Common.{◌≡◌, ℕ, ◌+◌, true, false, cond, eqb, leb, ltb, List, [], ◌∷◌, ◌++◌, get_or, take, drop, Some, None, Ok, Err, Option, sym, refl, ap, ◌∙◌, subst, arith}
-use Rattle.std.proofs.lemmas.Bool.{cond-true, cond-false, eq-eqb, ne_eqb}
-use Rattle.std.specs.Option.{ok_or}
+use Rattle.std.proofs.Common.{◌≡◌, ℕ, ◌+◌, Bool, true, false, not, cond, eqb, is_some, IfSome, leb, ltb, List, [], ◌∷◌, ◌++◌, get_or, take, drop, Some, None, Ok, Err, Option, sym, refl, ap, ◌∙◌, subst, arith}
+use Rattle.std.proofs.lemmas.Bool.{cond-true, cond-false}
+use Rattle.std.specs.Option.{ok_or, option_map}
 use Rattle.ranking.specs.Place.{Spot, spot_at, Found}
 use Rattle.market.specs.declared.types.Side.{Side}
 use Rattle.market.specs.declared.types.Side.TheVariants.{Buy, Sell}
@@ -18,13 +18,13 @@ use Rattle.market.specs.Legal.{legal_user, legal_size}
 use Rattle.market.specs.States.{State, Quotes, numbered, route_bears, on, put}
 use Rattle.market.specs.Orders.{total, trimmed, entered, returned}
 use Rattle.market.specs.Reports.{in_report, off_report, off_hand, back_report}
-use Rattle.market.specs.Calls.{Pass, ready, ended, in_hand, Outcome, refuse, answer, unless, verdict, call, numbers_refusal, terms_refusal, cut_refusal, admit, Place, find, taken_out, changed_to, cancel_at, cancel_call, cut_at, cut_call, replace_at, replace_call, reply_at, reply_call, late_reply_at, late_reply_call, late_reports, hand_back, unrouted, expire_from, expire_call}
+use Rattle.market.specs.Calls.{Pass, ready, ended, in_hand, Outcome, refuse, answer, unless, verdict, call, numbers_refusal, terms_refusal, cut_refusal, admit, Place, find, taken_out, changed_to, cancel_at, cancel_call, cut_at, cut_call, replace_at, replace_call, reply_at, reply_call, late_reply_at, late_reply_call, late_reports, held_by, hand_back, unrouted, expire_from, expire_call}
 use Rattle.resting.specs.Orders.{at_place, Located}
 use Rattle.resting.specs.declared.orders.looks.Standing.{Standing}
 use Rattle.resting.proofs.Sounds.{no_order}
 use Rattle.book.specs.declared.book.Book.{Book}
-use Rattle.book.specs.Outcomes.{book_state, seen, own_call}
-use Rattle.book.specs.Moves.{Removes, off_list}
+use Rattle.book.specs.Outcomes.{book_state, seen, own_call, late_list}
+use Rattle.book.specs.Moves.{Removes}
 use Rattle.book.specs.Expiry.{first_of_two, oldest_side}
 use Rattle.book.proofs.Verdicts.{passes, fails, held, failed, first_passes}
 
@@ -44,6 +44,27 @@ located user n s r why at h l = let P : Option Standing → Type 0 = λ x. Locat
 
 pub found_route : (n : ℕ) (s : State) (r : Option ℕ) (why : Refusal) (i : ℕ) → Ok i ≡ ok_or r why → Found (route_bears n) s.routes r → Found (route_bears n) s.routes (Some i)
 found_route n s r why i h l = let P : Option ℕ → Type 0 = λ x. Found (route_bears n) s.routes x in subst P (some_of r why i h) l
+
+-- the shares that come back, if any
+abbrev pub comes_back : ℕ → Route → Option Order
+comes_back k r = cond (eqb r.out k) None (Some (returned k r))
+
+held_back : (b : Bool) (o : Order) → held_by (cond b None (Some o)) ≡ cond b ready (in_hand o)
+held_back true o = refl
+held_back false o = refl
+
+late_back : (b : Bool) (o : Order) → late_list (option_map (off_hand Expired) (cond b None (Some o))) ≡ cond b [] (off_hand Expired o ∷ [])
+late_back true o = refl
+late_back false o = refl
+
+came : (b : Bool) (left : Option Order) (o : Order) → is_some left ≡ not b → IfSome left (λ y. y ≡ o) → left ≡ cond b None (Some o)
+came true None o v e = refl
+came true (Some y) o v e = grind arith
+came false None o v e = grind arith
+came false (Some y) o v e = ap Some e
+
+pub came_back : (k : ℕ) (r : Route) (left : Option Order) → is_some left ≡ not (eqb r.out k) → IfSome left (λ y. y ≡ returned k r) → left ≡ comes_back k r
+came_back k r left v e = came (eqb r.out k) left (returned k r) v e
 
 module _ (s : State) (q : Quotes) where
   -- a resting order found at a place
@@ -117,29 +138,19 @@ module _ (s : State) (q : Quotes) where
       late_small : answer (late_reports k r.line) (unrouted r s) q ended ≡ late_reply_call k n s q
       late_small = sym (ap (λ y. late_reply_at k y s q) (f.1 x) ∙ cond-true _ _ _ (out_is ∙ held (leb k x.out) ReplyTooLarge h))
 
-      pub reply_filled : k ≡ x.out → answer (rep ∷ []) s' q ready ≡ reply_call k n s q
-      reply_filled e =
-          let g : eqb r.line.out k ≡ true = eq-eqb r.line.out k (sym (e ∙ ap (λ z. z.out) ex)) in
-          ap (λ z. answer (z ∷ []) s' q ready) (er ∙ ap (back_report k) ex) ∙ ap (λ z. answer (back_report k r.line ∷ []) z q ready) es
-          ∙ sym (ap (λ t. answer (back_report k r.line ∷ []) (unrouted r s) q (cond t ready (in_hand (returned k r.line)))) g) ∙ reply_small
+      module _ (left : Option Order) (el : left ≡ comes_back k x) where
+        back_is : left ≡ comes_back k r.line
+        back_is = el ∙ ap (comes_back k) ex
 
-      pub late_filled : k ≡ x.out → answer (rep ∷ []) s' q ended ≡ late_reply_call k n s q
-      late_filled e =
-          let g : eqb r.line.out k ≡ true = eq-eqb r.line.out k (sym (e ∙ ap (λ z. z.out) ex)) in
-          ap (λ z. answer (z ∷ []) s' q ended) (er ∙ ap (back_report k) ex) ∙ ap (λ z. answer (back_report k r.line ∷ []) z q ended) es
-          ∙ sym (ap (λ t. answer (back_report k r.line ∷ cond t [] (off_hand Expired (returned k r.line) ∷ [])) (unrouted r s) q ended) g) ∙ late_small
+        pub reply_done : answer (rep ∷ []) s' q (held_by left) ≡ reply_call k n s q
+        reply_done =
+            ap (λ z. answer (z ∷ []) s' q (held_by left)) (er ∙ ap (back_report k) ex) ∙ ap (λ z. answer (back_report k r.line ∷ []) z q (held_by left)) es ∙ ap (λ z. answer (back_report k r.line ∷ []) (unrouted r s) q (held_by z)) back_is
+            ∙ ap (answer (back_report k r.line ∷ []) (unrouted r s) q) (held_back (eqb r.line.out k) (returned k r.line)) ∙ reply_small
 
-      pub reply_returned : (o : Order) → (k ≡ x.out → ⊥) → o ≡ returned k x → answer (rep ∷ []) s' q (in_hand o) ≡ reply_call k n s q
-      reply_returned o ne eo =
-          let g : eqb r.line.out k ≡ false = ne_eqb r.line.out k (λ e. ne (sym (ap (λ z. z.out) ex ∙ e))) in
-          ap (λ z. answer (z ∷ []) s' q (in_hand o)) (er ∙ ap (back_report k) ex) ∙ ap (λ z. answer (back_report k r.line ∷ []) z q (in_hand o)) es ∙ ap (λ z. answer (back_report k r.line ∷ []) (unrouted r s) q (in_hand z)) (eo ∙ ap (returned k) ex)
-          ∙ sym (ap (λ t. answer (back_report k r.line ∷ []) (unrouted r s) q (cond t ready (in_hand (returned k r.line)))) g) ∙ reply_small
-
-      pub late_returned : (o : Order) → (k ≡ x.out → ⊥) → o ≡ returned k x → answer (rep ∷ off_list (Some o)) s' q ended ≡ late_reply_call k n s q
-      late_returned o ne eo =
-          let g : eqb r.line.out k ≡ false = ne_eqb r.line.out k (λ e. ne (sym (ap (λ z. z.out) ex ∙ e))) in
-          ap (λ z. answer (z ∷ off_list (Some o)) s' q ended) (er ∙ ap (back_report k) ex) ∙ ap (λ z. answer (back_report k r.line ∷ off_hand Expired z ∷ []) s' q ended) (eo ∙ ap (returned k) ex) ∙ ap (λ z. answer (back_report k r.line ∷ off_hand Expired (returned k r.line) ∷ []) z q ended) es
-          ∙ sym (ap (λ t. answer (back_report k r.line ∷ cond t [] (off_hand Expired (returned k r.line) ∷ [])) (unrouted r s) q ended) g) ∙ late_small
+        pub late_done : answer (rep ∷ late_list (option_map (off_hand Expired) left)) s' q ended ≡ late_reply_call k n s q
+        late_done =
+            ap (λ z. answer (z ∷ late_list (option_map (off_hand Expired) left)) s' q ended) (er ∙ ap (back_report k) ex) ∙ ap (λ z. answer (back_report k r.line ∷ late_list (option_map (off_hand Expired) left)) z q ended) es
+            ∙ ap (λ z. answer (back_report k r.line ∷ late_list (option_map (off_hand Expired) z)) (unrouted r s) q ended) back_is ∙ ap (λ l. answer (back_report k r.line ∷ l) (unrouted r s) q ended) (late_back (eqb r.line.out k) (returned k r.line)) ∙ late_small
 
 -- the first order of a side expires
 

@@ -19,6 +19,11 @@ Did t b b' q' r = (b'.id ≡ b.id) × (r.0 ≡ t.report) × (r.1 ≡ t.left) × 
 abbrev pub accepts : Book → InHand → Bool
 accepts b h = h.book == b.id && fits h.order.number (book_state b)
 
+-- an accepted pass is the same pass, and a refused one is handed back
+abbrev pub Accepted : Book → InHand → Result InHand (Refused InHand) → Type 0
+Accepted b h (Ok h') = (accepts b h ≡ true) × (h' ≡ h)
+Accepted b h (Err r) = (accepts b h ≡ false) × (r.why ≡ WrongPass) × (r.pass ≡ h)
+
 -- a run of steps: its reports stand at the front of the list, n of them, and what stood behind stays
 pub record Ran (t : Run) (s' : State) (q' : Quotes) (l l' : List Report) (n : ℕ) (left : Option Order) : Type 0 where
   pub count : n ≡ length t.reports

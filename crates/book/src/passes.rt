@@ -36,6 +36,23 @@ pub struct Refused<P> {
     pub pass: P,
 }
 
+impl Ready {
+    ghost use Rattle.book.specs.Outcomes.{or_back};
+
+    // The answer of a call that read this pass: a refusal hands the pass back, and anything else uses it up.
+    pub(crate) fn used_up<T>(self, answer: Result<T, Refusal>) -> Result<T, Refused<Ready>>
+        ensures { result ≡ or_back self answer }
+    {
+        match answer {
+            Err(why) => Err(Refused { why, pass: self }),
+            Ok(done) => {
+                let Ready { book: _ } = self;
+                Ok(done)
+            }
+        }
+    }
+}
+
 impl InHand {
     ghost use Rattle.book.specs.Outcomes.{next_pass, next_book, left_in};
 

@@ -66,11 +66,9 @@ impl Report {
     {
         Report {
             what: What::Trade { resting },
-            number: o.number,
-            user: o.user,
-            side: o.side,
             price,
             shares: k,
+            ..Report::entered(o)
         }
     }
 
@@ -81,10 +79,9 @@ impl Report {
         Report {
             what: What::Sent { venue: q.venue },
             number,
-            user: o.user,
-            side: o.side,
             price: q.price,
             shares: k,
+            ..Report::entered(o)
         }
     }
 
@@ -95,11 +92,8 @@ impl Report {
         let p = Resting::from(o);
         Report {
             what: What::Rest { held: p.held },
-            number: o.number,
-            user: o.user,
-            side: o.side,
-            price: o.limit,
             shares: p.shown,
+            ..Report::entered(o)
         }
     }
 
@@ -121,9 +115,10 @@ impl Report {
     pub fn off_hand(why: Reason, o: Order) -> Report
         ensures { result ≡ off_hand why o }
     {
+        let whole = Report::entered(o);
         Report {
             what: What::Off(why),
-            ..Report::entered(o)
+            ..whole
         }
     }
 

@@ -15,7 +15,7 @@ impl Book {
     pub fn cancel(&mut self, pass: &Ready, user: u32, number: u32) -> Result<Report, Refusal>
         ensures { (q : Quotes) → reported_as ready pass.now.book result self.new q ≡ own_call self.old pass.now.book q (Cancel user number) ready }
     {
-        self.owns(pass.book)?;
+        self.check_pass(pass.book)?;
         Refusal::User.unless(is_legal_user(user))?;
         let at = self.orders.find(user, number).ok_or(Refusal::NotResting)?;
         Ok(self.take_off(Reason::Cancelled, at))
@@ -31,7 +31,7 @@ impl Book {
     ) -> Result<Report, Refusal>
         ensures { (q : Quotes) → reported_as ready pass.now.book result self.new q ≡ own_call self.old pass.now.book q (Cut size user number) ready }
     {
-        self.owns(pass.book)?;
+        self.check_pass(pass.book)?;
         Refusal::User.unless(is_legal_user(user))?;
         Refusal::Size.unless(is_legal_size(size))?;
         let at = self.orders.find(user, number).ok_or(Refusal::NotResting)?;

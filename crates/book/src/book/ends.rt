@@ -16,33 +16,24 @@ impl Book {
     pub fn close(&mut self, pass: Ready) -> Result<Ended, Refused<Ready>>
         ensures { (q : Quotes) → closed_as result self.new q ≡ own_call self.old pass.book q Close ready }
     {
-        match self.owns(pass.book) {
-            Err(why) => Err(Refused { why, pass }),
-            Ok(()) => {
-                let Ready { book } = pass;
-                Ok(Ended { book })
-            }
-        }
+        let book = pass.book;
+        pass.used_up(self.check_pass(book))?;
+        Ok(Ended { book })
     }
 
     // The side of which the first order expires next: buys before sells.
     fn expiring_side(&self) -> Option<Side>
         ensures { result ≡ oldest_side (book_state self.now) }
     {
-        if self.orders.count_on(Side::Buy) > 0 {
-            Some(Side::Buy)
-        } else if self.orders.count_on(Side::Sell) > 0 {
-            Some(Side::Sell)
-        } else {
-            None
-        }
+        let one_of = |side| (self.orders.count_on(side) > 0).then_some(side);
+        one_of(Side::Buy).or_else(|| one_of(Side::Sell))
     }
 
     // Takes the first buy off, or where there is none the first sell.
     pub fn expire(&mut self, pass: &Ended) -> Result<Report, Refusal>
         ensures { (q : Quotes) → reported_as ended pass.now.book result self.new q ≡ own_call self.old pass.now.book q Expire ended }
     {
-        self.owns(pass.book)?;
+        self.check_pass(pass.book)?;
         let side = self.expiring_side().ok_or(Refusal::NothingResting)?;
         Ok(self.take_off(Reason::Expired, Standing { side, place: 0 }))
     }

@@ -1,16 +1,14 @@
 // Making a book, and taking an order in hand: enter and replace.
-ghost use Rattle.std.specs.Prelude.{◌≡◌, true, IfOk};
+ghost use Rattle.std.specs.Prelude.{◌≡◌, IfOk};
 ghost use Rattle.market.specs.declared.types.Call.TheVariants.{Enter, Replace};
 ghost use Rattle.market.specs.States.{Quotes, new_state};
 ghost use Rattle.market.specs.Calls.{ready};
-ghost use Rattle.market.specs.Sound.{able};
-ghost use Rattle.book.specs.Outcomes.{book_state, seen, own_call, entered_as, replaced_as};
-ghost use Rattle.book.specs.Moves.{entering, replacing};
+ghost use Rattle.book.specs.Outcomes.{book_state, own_call, or_back, entered_as, replaced_as};
 
 use super::Book;
 use crate::checks::check_terms;
 use crate::passes::{InHand, Ready, Refused};
-use market::types::{Order, Reason, Refusal, Report, Side, Terms};
+use market::types::{Reason, Refusal, Report, Side, Terms};
 use resting::orders::OpenOrders;
 use std::alloc::{AllocError, Global};
 
@@ -22,15 +20,16 @@ impl Book {
         Ok((Book { id, orders }, Ready { book: id }))
     }
 
-    // An entry with a pass that bears this number: its order, and the report of it.
-    fn enter_by(&mut self, pass: u32, side: Side, t: Terms) -> Result<(Order, Report), Refusal>
-        ensures outcome { (q : Quotes) → seen self.new pass (entering result (book_state self.new) q) ≡ own_call self.old pass q (Enter side t) ready }
-        ensures able { IfOk result (λ x. able x.0 ≡ true) }
+    // An entry, whose pass is used up only where it is not refused.
+    fn enter_by(&mut self, pass: &Ready, side: Side, t: Terms) -> Result<(InHand, Report), Refusal>
+        ensures { (q : Quotes) → entered_as (or_back pass.now result) self.new q ≡ own_call self.old pass.now.book q (Enter side t) ready }
     {
-        self.owns(pass)?;
+        self.check_pass(pass.book)?;
         check_terms(t)?;
         self.check_numbers()?;
-        Ok(self.admit(side, t))
+        let (order, report) = self.admit(side, t);
+        let book = pass.book;
+        Ok((InHand { book, order }, report))
     }
 
     // Takes an order in hand under the next number.
@@ -42,32 +41,27 @@ impl Book {
     ) -> Result<(InHand, Report), Refused<Ready>>
         ensures { (q : Quotes) → entered_as result self.new q ≡ own_call self.old pass.book q (Enter side t) ready }
     {
-        match self.enter_by(pass.book, side, t) {
-            Err(why) => Err(Refused { why, pass }),
-            Ok((order, report)) => {
-                let Ready { book } = pass;
-                Ok((InHand { book, order }, report))
-            }
-        }
+        let done = self.enter_by(&pass, side, t);
+        pass.used_up(done)
     }
 
-    // A replacement with a pass that bears this number: the new order, and the reports off and in.
+    // A replacement, whose pass is used up only where it is not refused.
     fn replace_by(
         &mut self,
-        pass: u32,
+        pass: &Ready,
         t: Terms,
         number: u32,
-    ) -> Result<(Order, Report, Report), Refusal>
-        ensures outcome { (q : Quotes) → seen self.new pass (replacing result (book_state self.new) q) ≡ own_call self.old pass q (Replace t number) ready }
-        ensures able { IfOk result (λ x. able x.0 ≡ true) }
+    ) -> Result<(InHand, Report, Report), Refusal>
+        ensures { (q : Quotes) → replaced_as (or_back pass.now result) self.new q ≡ own_call self.old pass.now.book q (Replace t number) ready }
     {
-        self.owns(pass)?;
+        self.check_pass(pass.book)?;
         check_terms(t)?;
         let at = self.orders.find(t.user, number).ok_or(Refusal::NotResting)?;
         self.check_numbers()?;
         let off = self.take_off(Reason::Replaced, at);
         let (order, entered) = self.admit(at.side, t);
-        Ok((order, off, entered))
+        let book = pass.book;
+        Ok((InHand { book, order }, off, entered))
     }
 
     // Removes a user's resting order and takes new terms in hand on its side, both or neither: off, then in.
@@ -79,12 +73,7 @@ impl Book {
     ) -> Result<(InHand, Report, Report), Refused<Ready>>
         ensures { (q : Quotes) → replaced_as result self.new q ≡ own_call self.old pass.book q (Replace t number) ready }
     {
-        match self.replace_by(pass.book, t, number) {
-            Err(why) => Err(Refused { why, pass }),
-            Ok((order, off, entered)) => {
-                let Ready { book } = pass;
-                Ok((InHand { book, order }, off, entered))
-            }
-        }
+        let done = self.replace_by(&pass, t, number);
+        pass.used_up(done)
     }
 }

@@ -12,10 +12,10 @@ use resting::orders::looks::Standing;
 
 impl Book {
     // Whether a pass that bears this number is the book's own.
-    pub(super) fn owns(&self, pass: u32) -> Result<(), Refusal>
-        ensures { result ≡ verdict (unless (pass == self.now.id) WrongPass) }
+    pub(super) fn check_pass(&self, bears: u32) -> Result<(), Refusal>
+        ensures { result ≡ verdict (unless (bears == self.now.id) WrongPass) }
     {
-        Refusal::WrongPass.unless(pass == self.id)
+        Refusal::WrongPass.unless(bears == self.id)
     }
 
     // Whether a number is left for an order.

@@ -4,8 +4,7 @@ ghost use Rattle.market.specs.declared.types.Call.TheVariants.{Reply};
 ghost use Rattle.market.specs.States.{Quotes};
 ghost use Rattle.market.specs.Calls.{ready, ended};
 ghost use Rattle.market.specs.Sound.{able};
-ghost use Rattle.book.specs.Outcomes.{book_state, seen, own_call, replied_as, late_as};
-ghost use Rattle.book.specs.Moves.{returning, returning_late};
+ghost use Rattle.book.specs.Outcomes.{book_state, seen, own_call, returning, replied_as, lapsed, late_as};
 
 use super::Book;
 use crate::passes::{Ended, Next, Ready, Refused};
@@ -15,24 +14,21 @@ impl Book {
     // A reply with a pass that bears this number: its report, and the shares that come back, if any.
     fn reply_by(
         &mut self,
-        pass: u32,
+        bears: u32,
         filled: u32,
         number: u32,
     ) -> Result<(Report, Option<Order>), Refusal>
-        ensures ready { (q : Quotes) → seen self.new pass (returning result (book_state self.new) q) ≡ own_call self.old pass q (Reply filled number) ready }
-        ensures ended { (q : Quotes) → seen self.new pass (returning_late result (book_state self.new) q) ≡ own_call self.old pass q (Reply filled number) ended }
+        ensures ready { (q : Quotes) → seen self.new bears (returning result (book_state self.new) q) ≡ own_call self.old bears q (Reply filled number) ready }
+        ensures ended { (q : Quotes) → late_as bears (lapsed result) self.new q ≡ own_call self.old bears q (Reply filled number) ended }
         ensures able { IfOk result (λ x. IfSome x.1 (λ o. able o ≡ true)) }
     {
-        self.owns(pass)?;
+        self.check_pass(bears)?;
         let place = self.orders.find_route(number).ok_or(Refusal::NotOut)?;
         let route = self.orders.route_at(place);
         Refusal::ReplyTooLarge.unless(filled <= route.out)?;
         self.orders.end_route(place);
-        let report = Report::replied(filled, route);
-        if filled == route.out {
-            return Ok((report, None));
-        }
-        Ok((report, Some(route.come_back(filled))))
+        let left = (route.out != filled).then(|| route.come_back(filled));
+        Ok((Report::replied(filled, route), left))
     }
 
     // Ends a route of which so many shares were filled. The others come back in hand.
@@ -44,13 +40,9 @@ impl Book {
     ) -> Result<(Next, Report), Refused<Ready>>
         ensures { (q : Quotes) → replied_as result self.new q ≡ own_call self.old pass.book q (Reply filled number) ready }
     {
-        match self.reply_by(pass.book, filled, number) {
-            Err(why) => Err(Refused { why, pass }),
-            Ok((report, left)) => {
-                let Ready { book } = pass;
-                Ok((Next::with(book, left), report))
-            }
-        }
+        let book = pass.book;
+        let (report, left) = pass.used_up(self.reply_by(book, filled, number))?;
+        Ok((Next::with(book, left), report))
     }
 
     // The same after the close: what is not filled is taken off.

@@ -10,13 +10,13 @@ ghost use Rattle.market.specs.Calls.{in_hand};
 ghost use Rattle.market.specs.Sound.{able};
 ghost use Rattle.resting.specs.Sides.{first_shown};
 ghost use Rattle.book.specs.Outcomes.{book_state, own_call, worked_as};
-ghost use Rattle.book.specs.Works.{Did, WorksOn, accepts};
+ghost use Rattle.book.specs.Works.{Did, WorksOn, Accepted};
 
 use super::Book;
 use crate::passes::{InHand, Next, Refused};
 use board::Board;
 use board::looks::{first_better, first_line};
-use market::types::{Kind, Move, Order, Quotation, Reason, Refusal, Report, Resting};
+use market::types::{Kind, Move, Order, Quotation, Reason, Refusal, Report};
 
 // Rules 3 to 6: what becomes of an order that neither trades nor is sent.
 fn ending(near: bool, full: bool, kind: Kind) -> Move
@@ -31,18 +31,6 @@ fn ending(near: bool, full: bool, kind: Kind) -> Move
     } else {
         Move::Rest
     }
-}
-
-fn is_resting_near(o: Order, first: Option<Resting>) -> bool
-    ensures { result ≡ resting_near o first }
-{
-    first.is_some_and(|p| o.side.is_within(o.limit, p.price))
-}
-
-fn is_quotation_near(o: Order, first: Option<Quotation>) -> bool
-    ensures { result ≡ quotation_near o first }
-{
-    first.is_some_and(|q| o.side.is_within(o.limit, q.price))
 }
 
 impl Book {
@@ -72,8 +60,11 @@ impl Book {
             }
             return Move::Send(q);
         }
+        let is_near = |first: Option<u32>| first.is_some_and(|price| o
+            .side
+            .is_within(o.limit, price));
         ending(
-            is_resting_near(o, resting) || is_quotation_near(o, quotation),
+            is_near(resting.map(|p| p.price)) || is_near(quotation.map(|q| q.price)),
             self.orders.is_full(o.side),
             o.kind,
         )
@@ -114,7 +105,7 @@ impl Book {
         ensures { Did (act Rest (book_state self.old) no_quotes hand.now.order) self.old self.new no_quotes result }
     {
         let o = hand.order;
-        self.orders.rest(o.side, Resting::from(o));
+        self.orders.rest(o.side, o.into());
         (Report::rested(o), None)
     }
 
@@ -137,11 +128,15 @@ impl Book {
         }
     }
 
-    // Whether the pass is this book's, and its order may be worked.
-    fn accepts(&self, pass: &InHand) -> bool
-        ensures { result ≡ accepts self.now pass.now }
+    // The pass, where it is this book's and its order may be worked.
+    fn accepted(&self, pass: InHand) -> Result<InHand, Refused<InHand>>
+        ensures { Accepted self.now pass result }
     {
-        pass.book == self.id && self.orders.may_work(pass.order.number)
+        if pass.book == self.id && self.orders.may_work(pass.order.number) {
+            return Ok(pass);
+        }
+        let why = Refusal::WrongPass;
+        Err(Refused { why, pass })
     }
 
     // Does one step of the order in hand.
@@ -152,12 +147,9 @@ impl Book {
     ) -> Result<(Next, Report), Refused<InHand>>
         ensures { worked_as result self.new (quotes_of (B.bids board.new) (B.offers board.new)) ≡ own_call self.old pass.book (quotes_of (B.bids board.old) (B.offers board.old)) Work (in_hand pass.order) }
     {
-        if !self.accepts(&pass) {
-            let why = Refusal::WrongPass;
-            return Err(Refused { why, pass });
-        }
-        let (report, left) = self.act(&pass, board);
-        Ok((pass.hand_on(left), report))
+        let hand = self.accepted(pass)?;
+        let (report, left) = self.act(&hand, board);
+        Ok((hand.hand_on(left), report))
     }
 
     // Does steps, and writes their reports from the front of the list, until the order is done or the list is full.
@@ -169,14 +161,10 @@ impl Book {
     ) -> Result<(Next, usize), Refused<InHand>>
         ensures { WorksOn pass self.old self.new (quotes_of (B.bids board.old) (B.offers board.old)) (quotes_of (B.bids board.new) (B.offers board.new)) reports.old reports.new result }
     {
-        if !self.accepts(&pass) {
-            let why = Refusal::WrongPass;
-            return Err(Refused { why, pass });
-        }
-        let mut hand = pass;
-        for n in 0..reports.len() {
+        let mut hand = self.accepted(pass)?;
+        for (n, slot) in reports.iter_mut().enumerate() {
             let (report, left) = self.act(&hand, board);
-            reports[n] = report;
+            *slot = report;
             match hand.hand_on(left) {
                 Next::Done(ready) => return Ok((Next::Done(ready), n + 1)),
                 Next::More(more) => hand = more,

@@ -19,7 +19,7 @@ returns-in_err-unless-3 c =
     let x = c.line_at-line.result in
     let r = err_from_is_err_and c.from_residual-in_err-unless-3.result c.from_residual-in_err-unless-3.ensures.1 in
     rw (r.1, r.2)
-    (λ q. owned a.self.now _ a.pass.now.book q (Cut a.size a.user a.number) ready _ c.in_ok-owns.ensures refl
+    (λ q. owned a.self.now _ a.pass.now.book q (Cut a.size a.user a.number) ready _ c.in_ok-check_pass.ensures refl
     (cut_large s q a.user a.number c.in_ok-at.at (located a.user a.number s _ _ _ c.in_ok-at.ensures.value c.find.ensures) a.size x (holds_as _ _ User c.in_ok-unless.ensures c.is_legal_user.ensures) (holds_as _ _ Size c.in_ok-unless-2.ensures c.is_legal_size.ensures) (c.line_at-line.ensures.value x) _ c.in_err-unless-3.ensures))
 
 pub trim-requires-clause-few : goal.trim-requires-clause-few
@@ -36,5 +36,5 @@ returns c =
     let a = c.args in
     let s = book_state a.self.now in
     let x = c.line_at-line.result in
-    λ q. owned a.self.now _ a.pass.now.book q (Cut a.size a.user a.number) ready _ c.in_ok-owns.ensures refl
+    λ q. owned a.self.now _ a.pass.now.book q (Cut a.size a.user a.number) ready _ c.in_ok-check_pass.ensures refl
     (cut_done s q a.user a.number c.in_ok-at.at (located a.user a.number s _ _ _ c.in_ok-at.ensures.value c.find.ensures) a.size x (holds_as _ _ User c.in_ok-unless.ensures c.is_legal_user.ensures) (holds_as _ _ Size c.in_ok-unless-2.ensures c.is_legal_size.ensures) (c.line_at-line.ensures.value x) _ _ c.in_ok-unless-3.ensures c.taken_off.ensures (c.trim.ensures x))

@@ -8,4 +8,4 @@ pub returns : goal.returns
 returns c =
     let a = c.args in
     let m = c.take_off.ensures in
-    λ q. owned a.self.now _ a.pass.now.book q Expire ended _ c.in_ok-owns.ensures m.0 (expire_done c.in_ok-side.side _ _ (book_state a.self.now) _ q _ c.in_ok-side.ensures.value c.expiring_side.ensures m.1)
+    λ q. owned a.self.now _ a.pass.now.book q Expire ended _ c.in_ok-check_pass.ensures m.0 (expire_done c.in_ok-side.side _ _ (book_state a.self.now) _ q _ c.in_ok-side.ensures.value c.expiring_side.ensures m.1)

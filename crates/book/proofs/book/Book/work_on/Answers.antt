@@ -1,8 +1,9 @@
-use Rattle.std.proofs.Common.{◌≡◌, ℕ, true, length, ◌<◌, Some, None, sym, ◌∙◌, subst, arith, length-set}
+use Rattle.std.proofs.Common.{◌≡◌, ℕ, true, length, ◌<◌, Some, None, sym, ap, ◌∙◌, subst, arith, length-set}
 use Rattle.soundness.proofs.Hands.{fits_after}
 use Rattle.market.specs.States.{quotes_of, fits}
-use Rattle.market.specs.Steps.{run}
-use Rattle.book.specs.Outcomes.{book_state}
+use Rattle.market.specs.Steps.{Run, run}
+use Rattle.book.specs.Outcomes.{book_state, hand_book}
+use Rattle.book.specs.declared.passes.InHand.{InHand}
 use Rattle.book.specs.Works.{Ran}
 use Rattle.book.proofs.Runs.{along_on, ran_done, ran_full}
 use Rattle.book.proofs.book.Book.work_on.Goals as goal
@@ -13,7 +14,9 @@ returns-in-Done g c =
     let d = c.act-left.ensures.did in
     let h : l.n < length l.reports = omega arith in
     let a = along_on c.args.reports.now _ l.reports l.n l.hand.order l.self c.act-left.new.self _ _ c.act-left.result None (sym c.in-Done.ensures.left) h l.auto.reports l.invariant.4 d in
-    (sym c.if-not-accepts.ensures, d.0 ∙ l.invariant.2, c.in-Done.ensures.book ∙ l.invariant.3, ran_done c.args.reports.now _ _ _ _ _ (simp length-set (omega arith)) a)
+    let k = c.in_ok-hand.ensures in
+    let t : InHand → Run = λ p. run (length c.args.reports.now) (Some p.order) (book_state c.args.self.now) (quotes_of (g.B.Board.bids c.args.board.now) (g.B.Board.offers c.args.board.now)) in
+    (k.0, d.0 ∙ l.invariant.2, c.in-Done.ensures.book ∙ l.invariant.3 ∙ ap hand_book k.1, ran_done c.args.reports.now _ _ _ _ _ (simp length-set (omega arith)) (a.0, a.1 ∙ ap t k.1))
 
 pub loop-n-preserved : goal.loop-n-preserved
 loop-n-preserved g c =
@@ -31,7 +34,8 @@ loop-n-preserved g c =
 pub returns : goal.returns
 returns g c =
     let l = c.loop-n in
-    let t = run (length c.args.reports.now) (Some c.args.pass.order) (book_state c.args.self.now) (quotes_of (g.B.Board.bids c.args.board.now) (g.B.Board.offers c.args.board.now)) in
+    let k = c.in_ok-hand.ensures in
+    let t : InHand → Run = λ p. run (length c.args.reports.now) (Some p.order) (book_state c.args.self.now) (quotes_of (g.B.Board.bids c.args.board.now) (g.B.Board.offers c.args.board.now)) in
     let e : l.n ≡ length l.reports = omega arith in
-    let P : ℕ → Type 0 = λ n. Ran t (book_state l.self) (quotes_of (g.B.Board.bids l.board) (g.B.Board.offers l.board)) c.args.reports.now l.reports n (Some l.hand.order) in
-    (sym c.if-not-accepts.ensures, l.invariant.2, l.invariant.3, subst P e (ran_full c.args.reports.now _ _ _ _ _ _ l.invariant.1 (omega arith) l.invariant.4))
+    let P : ℕ → Type 0 = λ n. Ran (t c.args.pass) (book_state l.self) (quotes_of (g.B.Board.bids l.board) (g.B.Board.offers l.board)) c.args.reports.now l.reports n (Some l.hand.order) in
+    (k.0, l.invariant.2, l.invariant.3 ∙ ap hand_book k.1, subst P e (ran_full c.args.reports.now _ _ _ _ _ _ l.invariant.1 (omega arith) (l.invariant.4.0, l.invariant.4.1 ∙ ap t k.1)))
