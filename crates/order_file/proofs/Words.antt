@@ -1,4 +1,4 @@
--- Words are neither numbers nor blanks, and hold no space and no line end.
+-- No field holds a space or a line end, and no number is a blank.
 use Rattle.std.proofs.Common.{◌≡◌, ℕ, zero, suc, ◌^◌, ◌<◌, ◌≤◌, Bool, true, false, cond, ltb, List, [], ◌∷◌, decimal, refl, arith, ltb-true}
 use borrow.Author.Tests.{both_ways}
 use Rattle.market.specs.declared.types.Side.{Side}

@@ -3,7 +3,7 @@ ghost use Rattle.std.specs.Prelude.{◌≡◌, ℕ, ◌<◌, List, slice_index};
 ghost use Rattle.market.specs.Written.{side_word, kind_word};
 ghost use Rattle.order_file.specs.Instructions.{verb_word};
 ghost use Rattle.order_file.specs.Fields.{a_number, a_blank, Writes, Spells, Reads, Shows, Judged};
-ghost use Rattle.order_file.specs.declared.faults.Cause.TheVariants.{WrongWord as wrong_word, NotNumber as not_number, Misused as misused};
+ghost use Rattle.order_file.specs.declared.faults.Cause.TheVariants.{WrongWord, NotNumber, Misused};
 ghost use Rattle.std.proofs.Common.{rules};
 
 use crate::faults::{Cause, Fault};
@@ -113,6 +113,7 @@ fn number_of(bytes: &[u8]) -> Option<u32>
 }
 
 impl<'a> Part<'a> {
+    // What the part shows: a blank, a number, or else a word.
     fn field(self) -> Field<'a>
         ensures { Shows self.entry result }
     {
@@ -126,8 +127,9 @@ impl<'a> Part<'a> {
         }
     }
 
+    // The number that the field shows.
     pub fn number(self) -> Result<u32, Fault>
-        ensures { Judged (Writes a_number) not_number self.entry result }
+        ensures { Judged (Writes a_number) NotNumber self.entry result }
     {
         match self.field() {
             Field::Number(_, n, _) => Ok(n),
@@ -136,8 +138,9 @@ impl<'a> Part<'a> {
         }
     }
 
+    // The value whose word the field shows.
     pub fn word<W: Word>(self) -> Result<W, Fault>
-        ensures { Judged (Spells W.spelling) wrong_word self.entry result }
+        ensures { Judged (Spells W.spelling) WrongWord self.entry result }
     {
         match self.field() {
             Field::Word(bytes, place) => {
@@ -150,7 +153,7 @@ impl<'a> Part<'a> {
 
     // That the field is left blank.
     pub fn blank(self) -> Result<(), Fault>
-        ensures { Judged (Writes a_blank) misused self.entry result }
+        ensures { Judged (Writes a_blank) Misused self.entry result }
     {
         match self.field() {
             Field::Blank(_, _) => Ok(()),
