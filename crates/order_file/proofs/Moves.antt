@@ -51,6 +51,7 @@ wrong_names k bs n i l t r f u m a b h g e =
     let q = subst (Begins bs) b h in
     rw (a, p.1) (refl, (λ v z. g.0 (one_way l.now names t.now v (free 10 l.now q.1) names_free (sym q.0 ∙ z ∙ single names v)).0), p.2 ∙ g.1)
 
+-- bytes that begin with no ended line have no line end
 no_end : (bs : List ℕ) (i : Line) → Begins bs i → ((l t : Bor (List ℕ)) → i ≡ Ended l t → ⊥) → Free 10 bs
 no_end bs (Ended l t) h bad = absurd (bad l t refl)
 no_end bs Unended h bad = free 10 bs h.1

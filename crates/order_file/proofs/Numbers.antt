@@ -27,12 +27,14 @@ leads bs (suc n) h =
     let some : 0 < length bs = omega (arith, decimal_nonempty (suc n) (wide (suc n) h.0), ap length h.1) in
     (some, λ z. omega arith)
 
+-- a byte that is no digit stands in no number
 pub other_not : (bs : List ℕ) (i : ℕ) → i < length bs → (IsInRange 48 57 (get_or bs i 0) → ⊥) → (n : ℕ) → Writes a_number n bs → ⊥
 other_not bs i l bad n h = bad (digit_at bs i (subst (AllDigits 10) (sym h.1) (digits_decimal own n (wide n h.0))) l)
 
 pub no_digit : (bs : List ℕ) (i : ℕ) → i < length bs → (digit_value (get_or bs i 0) < 10 → ⊥) → (n : ℕ) → Writes a_number n bs → ⊥
 no_digit bs i l bad = other_not bs i l (λ r. let d : digit_value (get_or bs i 0) + 48 ≡ get_or bs i 0 = digit_value_digit (get_or bs i 0) r in bad (omega (arith, r)))
 
+-- bytes whose front writes too large a number write none
 large_not : (bs : List ℕ) (i : ℕ) → 2 ^ 32 ≤ digits_value 10 (take i bs) → (n : ℕ) → Writes a_number n bs → ⊥
 large_not bs i l n h =
     let k : digits_value 10 bs ≡ n = ap (digits_value 10) h.1 ∙ digits_value-decimal own n (wide n h.0) in
