@@ -1,6 +1,9 @@
 // The instructions of an order file.
 use market::types::{Quotation, Side, Terms};
 
+// The first line of an order file: the names of the fields.
+pub(crate) const NAMES: &str = "call side price size show kind user number venue";
+
 // One line of values: a call of the day, or a change of an away quotation.
 #[derive(Clone, Copy)]
 pub enum Instruction {

@@ -5,7 +5,7 @@ ghost use Rattle.order_file.specs.Files.{names, most_bytes, Begins, Moves, stopp
 ghost use Rattle.order_file.specs.declared.reader.Condition.TheVariants.{BeforeNames as before_names, AmongValues as among_values, Stopped as at_rest};
 
 use crate::faults::{Fault, ReadError};
-use crate::instructions::Instruction;
+use crate::instructions::{Instruction, NAMES};
 use crate::lines::{read_line, split_once};
 use std::alloc::Global;
 
@@ -66,7 +66,7 @@ fn check_length(file: &[u8]) -> Result<(), Fault>
 fn check_names(line: &[u8]) -> Result<(), Fault>
     ensures { MatchResult result (λ _. line.now ≡ names) (λ f. (line.now ≢ names) × (f ≡ no_names)) }
 {
-    if line == b"call side price size show kind user number venue".as_slice() {
+    if line == NAMES.as_bytes() {
         Ok(())
     } else {
         Err(Fault::of_names())

@@ -3,7 +3,7 @@ ghost use Rattle.std.specs.Prelude.{◌≡◌, IfOk, Some, string_bytes};
 ghost use Rattle.order_file.specs.Files.{text_of};
 ghost use Rattle.order_file.specs.Instructions.{written};
 
-use crate::instructions::Instruction;
+use crate::instructions::{Instruction, NAMES};
 use market::types::{Quotation, Terms};
 use std::alloc::{AllocError, Global};
 use std::fmt;
@@ -57,7 +57,7 @@ impl fmt::Display for Instruction {
 pub fn render(instructions: &[Instruction], heap: Global) -> Result<String, AllocError>
     ensures { IfOk result (λ s. string_bytes s ≡ text_of instructions.now) }
 {
-    let mut out = String::from_str(heap, "call side price size show kind user number venue\n")?;
+    let mut out = format!(in heap; "{NAMES}\n")?;
     for instruction in instructions {
         writeln!(out, "{instruction}")?;
     }
