@@ -1,11 +1,10 @@
 -- Wants met and not met, along the fields of a line.
-use Rattle.std.proofs.Common.{◌≡◌, ℕ, List, [], ◌∷◌, ◌++◌, map, IsErrAnd, Ok, Err, Result, sym, ap, ◌∙◌, subst, inl, inr}
+use Rattle.std.proofs.Common.{◌≡◌, ℕ, List, [], ◌∷◌, ◌++◌, map, IsErrAnd, MatchResult, Ok, Err, Result, sym, ap, ◌∙◌, subst, inl, inr}
 use Rattle.market.specs.Written.{shown}
 use Rattle.order_file.specs.Instructions.{verb_word, values_of, texts, Fit}
 use Rattle.order_file.specs.declared.instructions.Instruction.TheVariants.{Close as Close'}
 use Rattle.order_file.specs.declared.instructions.Verb.TheVariants.{Close}
 use Rattle.order_file.specs.declared.lines.Row.{Row}
-use Rattle.std.specs.Result.{result_and}
 use Rattle.std.proofs.lemmas.Result.{err_from_is_err_and}
 use Rattle.order_file.specs.Fields.{Want}
 use Rattle.order_file.specs.Lines.{wants, values, Amiss, AllGood, WordAlone, Taken}
@@ -33,7 +32,7 @@ pub passed_on : {X : Type 0} (P : Result X Fault → Type 0) (r : Result X Fault
 passed_on P r f e a = let p = err_from_is_err_and r e in rw (p.1, p.2) a
 
 -- a line that has a word alone
-pub alone : (v : Verb) (c : Instruction) (row : Row) (r : Result (Unit {0}) Fault) → wants v ≡ wants Close → Fit c → texts c ≡ verb_word v ∷ map shown (values_of Close')
-    → WordAlone row r → Taken v (values row) (result_and r (Ok c))
-alone v c row (Ok x) w fit t h = (fit, t ∙ ap (λ (x : List (List ℕ)). verb_word v ∷ x) (sym h))
-alone v c row (Err f) w fit t h = subst (λ (ws : List Want). Amiss ws (values row) f) (sym w) h
+pub alone : (v : Verb) (c : Instruction) (row : Row) (r : Result (Unit {0}) Fault) (s : Result Instruction Fault) → wants v ≡ wants Close → Fit c
+    → texts c ≡ verb_word v ∷ map shown (values_of Close') → WordAlone row r → MatchResult r (λ _. s ≡ Ok c) (λ f. s ≡ Err f) → Taken v (values row) s
+alone v c row (Ok x) s w fit t h m = rw m (fit, t ∙ ap (λ (x : List (List ℕ)). verb_word v ∷ x) (sym h))
+alone v c row (Err f) s w fit t h m = rw m (subst (λ (ws : List Want). Amiss ws (values row) f) (sym w) h)

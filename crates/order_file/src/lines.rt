@@ -201,8 +201,8 @@ fn by_verb(verb: Verb, row: &Row<'_>) -> Result<Instruction, Fault>
         Verb::Cancel => cancel(row),
         Verb::Reply => reply(row),
         Verb::Quote => quote(row),
-        Verb::Close => word_alone(row).and(Ok(Instruction::Close)),
-        Verb::Expire => word_alone(row).and(Ok(Instruction::Expire)),
+        Verb::Close => word_alone(row).map(|()| Instruction::Close),
+        Verb::Expire => word_alone(row).map(|()| Instruction::Expire),
     }
 }
 
