@@ -29,7 +29,7 @@ Value a_kind = Kind
 Value a_number = ℕ
 Value a_blank = Unit {0}
 
--- the words of a type, and the bytes that are one of them
+-- the bytes that are a value's word, by the spelling of its type
 abbrev pub Spells : {X : Type 0} → (X → List ℕ) → X → List ℕ → Type 0
 Spells spelling x p = p ≡ spelling x
 
