@@ -102,40 +102,40 @@ pub struct Report {
     pub shares: u32,
 }
 
-// Why shares were taken off.
+// Why shares were taken off, and the number that stands for it.
 #[derive(Clone, Copy, PartialEq, Eq, Debug)]
 pub enum Reason {
-    Cancelled,
-    Cut,
-    Replaced,
-    Expired,
+    Cancelled = 1,
+    Cut = 2,
+    Replaced = 3,
+    Expired = 4,
     // An order that does not rest found nothing more to trade.
-    Unfilled,
+    Unfilled = 5,
     // A book-only order would have locked or crossed.
-    WouldLock,
+    WouldLock = 6,
     // No route could be opened: 64 are open, or the numbers are used up.
-    NoRoute,
-    SideFull,
+    NoRoute = 7,
+    SideFull = 8,
 }
 
-// Why a call is refused.
+// Why a call is refused, and the number that stands for it.
 #[derive(Clone, Copy, PartialEq, Eq, Debug)]
 pub enum Refusal {
-    WrongPass,
-    User,
-    Size,
-    Price,
-    Show,
-    NotResting,
-    CutTooLarge,
-    NotOut,
-    ReplyTooLarge,
-    NumbersUsedUp,
-    Venue,
-    NoSuchLine,
-    NothingResting,
+    WrongPass = 1,
+    User = 2,
+    Size = 3,
+    Price = 4,
+    Show = 5,
+    NotResting = 6,
+    CutTooLarge = 7,
+    NotOut = 8,
+    ReplyTooLarge = 9,
+    NumbersUsedUp = 10,
+    Venue = 11,
+    NoSuchLine = 12,
+    NothingResting = 13,
     // The program has no pass for this call now.
-    NoPass,
+    NoPass = 47,
 }
 
 // What one step of work does: the first rule that applies.

@@ -7,21 +7,21 @@ use crate::fields::Place;
 use std::alloc::AllocError;
 use std::fmt;
 
-// What is wrong.
+// What is wrong, and the number that stands for it.
 #[derive(Clone, Copy, PartialEq, Eq, Debug)]
 pub enum Cause {
     // The names line is wrong or absent.
-    NoNames,
+    NoNames = 41,
     // A line has not nine fields, or does not end.
-    BadLine,
+    BadLine = 42,
     // A word that its field does not take.
-    WrongWord,
+    WrongWord = 43,
     // No number of 32 bits, or not as numbers are written.
-    NotNumber,
+    NotNumber = 44,
     // A blank in a field that is used, or anything else in one that is not.
-    Misused,
+    Misused = 45,
     // The file is too long.
-    TooLong,
+    TooLong = 46,
 }
 
 // Which part of the reader found the fault.
@@ -48,19 +48,11 @@ pub enum ReadError {
     Bad(Fault),
 }
 
-// A cause's number.
 impl From<Cause> for u32 {
     ghost from_gives = { λ c n. n ≡ cause_code c };
 
     fn from(cause: Cause) -> u32 {
-        match cause {
-            Cause::NoNames => 41,
-            Cause::BadLine => 42,
-            Cause::WrongWord => 43,
-            Cause::NotNumber => 44,
-            Cause::Misused => 45,
-            Cause::TooLong => 46,
-        }
+        cause as u32
     }
 }
 
