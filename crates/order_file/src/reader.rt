@@ -9,7 +9,8 @@ use crate::instructions::{Instruction, NAMES};
 use crate::lines::{read_line, split_once};
 use std::alloc::Global;
 
-const MOST_BYTES: usize = 32768;
+// The bytes that a file may have.
+pub const MOST_BYTES: usize = 32_768;
 
 // The spaces between nine fields, and the line's end.
 const SHORTEST_LINE: usize = 9;

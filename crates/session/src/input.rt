@@ -1,11 +1,12 @@
 // Where the order file comes from: the path that is given, or standard input.
 use anyhow::{anyhow, bail};
+use order_file::reader::MOST_BYTES;
 use std::fs::File;
 use std::io::Read;
 use std::{env, io};
 
-// A file may have 32,768 bytes. One more is enough to tell that it is too long, so no more are read.
-const ENOUGH: u64 = 32_769;
+// One byte more than a file may have is enough to tell that it is too long, so no more are read.
+const ENOUGH: u64 = MOST_BYTES as u64 + 1;
 
 // The first bytes of an input, to its end or until they are enough.
 fn first_bytes(from: impl Read + Drop, rt: &HostRuntime) -> io::Result<Vec<u8>> {
