@@ -24,7 +24,7 @@ impl Model for House {
 }
 
 // Why no book is made.
-#[derive(Clone, Copy, PartialEq, Eq)]
+#[derive(Clone, Copy, PartialEq, Eq, Debug)]
 pub enum NotMade {
     Memory(AllocError),
     BookNumbersUsedUp,

@@ -5,7 +5,7 @@ use market::types::{Quotation, Side, Terms};
 pub(crate) const NAMES: &str = "call side price size show kind user number venue";
 
 // One line of values: a call of the day, or a change of an away quotation.
-#[derive(Clone, Copy)]
+#[derive(Clone, Copy, PartialEq, Eq, Debug)]
 pub enum Instruction {
     Enter(Side, Terms),
     // New terms for the order of this number.
