@@ -1,5 +1,5 @@
 -- A day so far: the rest of the instructions complete it.
-use Rattle.std.proofs.Common.{◌≡◌, ℕ, ◌+◌, ◌<◌, ◌≤◌, List, [], ◌++◌, length, get_or, drop, IsOkAnd, sym, refl, ◌∙◌, subst}
+use Rattle.std.proofs.Common.{◌≡◌, ℕ, ◌+◌, ◌<◌, ◌≤◌, List, [], ◌++◌, length, get_or, drop, sym, refl, ◌∙◌, subst}
 use Rattle.std.proofs.lemmas.List.{at_drop_more, at_drop_all}
 use Rattle.market.specs.States.{State, Quotes, new_state, no_quotes}
 use Rattle.market.specs.Calls.{ready}
@@ -9,6 +9,7 @@ use Rattle.book.specs.declared.passes.Ready.{Ready}
 use Rattle.book.specs.Outcomes.{book_state}
 use Rattle.replay.specs.Days.{Day, done, then}
 use Rattle.replay.specs.Desks.{held_between, stage_pass, IsOwn, Follows, Followed}
+use Rattle.replay.specs.Records.{HasLines}
 use Rattle.replay.specs.Sessions.{Ran}
 use Rattle.replay.specs.declared.desk.Desk.{Desk}
 use Rattle.replay.specs.declared.desk.Stage.{Stage}
@@ -51,7 +52,7 @@ module _ (is : List Instruction) (d₀ : Desk) (p₀ : Stage) where
 
 -- a day from a new book, a board with no line and a new record
 pub ran : (is : List Instruction) (d₀ : Desk) (p₀ : Ready) (d : Desk) (p : Stage) →
-    book_state d₀.book ≡ new_state 1 → lists_of d₀.board ≡ no_quotes → IsOkAnd d₀.log.lines (λ v. v.items ≡ []) →
+    book_state d₀.book ≡ new_state 1 → lists_of d₀.board ≡ no_quotes → HasLines d₀.log [] →
     Follows (Day is) d₀ (held_between (Open p₀)) d (held_between p) → Ran is (record { book = d.book; stage = p; log = d.log })
 ran is d₀ p₀ d p es eq el f =
     let day =

@@ -1,5 +1,5 @@
 -- The record's lines, what they tell, and how they are written.
-use Rattle.std.specs.Prelude.{◌≡◌, ℕ, List, ◌++◌, map, Ok, Err, Result, IfOk, IsOkAnd}
+use Rattle.std.specs.Prelude.{◌≡◌, ℕ, List, ◌++◌, map, Ok, Err, Result, IfOk, IsOkAnd, IsErr}
 use Rattle.market.specs.declared.types.Report.{Report}
 use Rattle.market.specs.declared.types.Refusal.{Refusal}
 use Rattle.market.specs.Reports.{refusal_number}
@@ -20,7 +20,15 @@ abbrev pub told_text : Told → List ℕ
 told_text (report r) = report_line r
 told_text (refusal n) = refusal_line n
 
--- a record that has its lines tells this
+-- there was memory for the record's lines, and they tell this
+abbrev pub HasLines : Record → List Told → Type 0
+HasLines r l = IsOkAnd r.lines (λ v. map told_of v.items ≡ l)
+
+-- there was no memory for one of its lines
+abbrev pub HasEnded : Record → Type 0
+HasEnded r = IsErr r.lines
+
+-- what a record tells, if there was memory for its lines
 abbrev pub Tells : Record → List Told → Type 0
 Tells r l = IfOk r.lines (λ v. map told_of v.items ≡ l)
 

@@ -36,7 +36,7 @@ pub record EndsWith (is : List Instruction) (told : List Told) (book : State) (p
   pub day : Day is (new_state 1) no_quotes ready turns told book board pass
   pub lawful : Lawful turns told book pass
 
--- a day that has been run: the book and the pass that it ends with, and what was noted of it while there was memory
+-- a day that has been run: the book and the pass that it ends with, and all that was noted of it, if there was memory for every line
 abbrev pub Ran : List Instruction → DayRun → Type 0
 Ran is d = (told : List Told) × EndsWith is told (book_state d.book) (stage_pass d.stage) × Tells d.log told
 

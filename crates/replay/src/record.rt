@@ -1,13 +1,13 @@
 // The record of a day: its reports and refusals, in the order in which they came.
-ghost use Rattle.std.specs.Prelude.{◌≡◌, [], ◌∷◌, IsOkAnd, Some};
-ghost use Rattle.replay.specs.Records.{told_of, told_text, Tells, Noted};
+ghost use Rattle.std.specs.Prelude.{[], ◌∷◌, map, Some, IfOk, IfErr};
+ghost use Rattle.replay.specs.Records.{told_of, told_text, HasLines, HasEnded, Noted};
 
 use market::types::{Refusal, Report};
 use std::alloc::{AllocError, Global};
 use std::fmt;
 
 // One line of the record: a report, or why a call or a quote was refused.
-#[derive(Clone, Copy)]
+#[derive(Clone, Copy, PartialEq, Eq, Debug)]
 pub struct Line(pub Result<Report, Refusal>);
 
 impl fmt::Display for Line {
@@ -29,7 +29,7 @@ pub struct Record {
 
 impl Record {
     pub fn new(heap: Global) -> Record
-        ensures { IsOkAnd result.lines (λ v. v.items ≡ []) }
+        ensures { HasLines result [] }
     {
         Record {
             lines: Ok(Vec::new(heap)),
@@ -49,8 +49,10 @@ impl Record {
 
     // The lines, if there was memory for them all.
     pub fn finish(self) -> Result<Vec<Line>, AllocError>
-        ensures { result ≡ self.lines }
+        ensures lines { IfOk result (λ v. HasLines self (map told_of v.items)) }
+        ensures ended { IfErr result (λ e. HasEnded self) }
     {
-        self.lines
+        let Record { lines } = self;
+        lines
     }
 }
