@@ -9,6 +9,8 @@ use Rattle.market.specs.Reports.{refusal_number}
 use Rattle.soundness.specs.Kept.{Bearable}
 use Rattle.soundness.proofs.Kept.{sound_kept_lem}
 use Rattle.table_board.specs.Quoting.{lists_of}
+use Rattle.table_board.specs.declared.table.TableBoard.{TableBoard}
+use Rattle.book.specs.declared.book.Book.{Book}
 use Rattle.book.specs.declared.passes.Ready.{Ready}
 use Rattle.book.specs.declared.passes.InHand.{InHand}
 use Rattle.book.specs.declared.passes.Refused.{Refused}
@@ -97,13 +99,18 @@ pub turned_down : {c : Call} {d : Desk} {p₀ : Held} {d' : Desk} (p : Stage) (w
     Follows (Performs c) d p₀ d' (held_between p)
 turned_down p why own e n = at_once p (made (refused (refusal_number why)) own e n)
 
--- the same of a call that hands its pass back
-pub handed_back : {c : Call} {d : Desk} {p₀ : Held} {d' : Desk} (r : Refused Ready) →
+-- the same of a call that hands its pass back, once the refusal is noted
+pub handed_back : {c : Call} {d : Desk} {p₀ : Held} {d' : Desk} (r : Refused Ready) (p : Ready) (b : Book) (t : TableBoard) →
     p₀.book ≡ id_of d.book →
-    refused_as r d'.book (lists_of d'.board) ≡ own_call d.book p₀.book (lists_of d.board) c p₀.pass →
+    refused_as r b (lists_of t) ≡ own_call d.book p₀.book (lists_of d.board) c p₀.pass →
+    p ≡ r.pass →
     Noted (refusal (refusal_number r.why) ∷ []) d.log d'.log →
-    Follows (Performs c) d p₀ d' (held_between (Open r.pass))
-handed_back r own e n = turned_down (Open r.pass) r.why own e n
+    d'.book ≡ b →
+    d'.board ≡ t →
+    Follows (Performs c) d p₀ d' (held_between (Open p))
+handed_back {c = c} {d = d} {p₀ = p₀} {d' = d'} r p b t own e ep n eb et =
+    let seen : refused_as r d'.book (lists_of d'.board) ≡ own_call d.book p₀.book (lists_of d.board) c p₀.pass = ap (λ (z : Book). refused_as r z (lists_of d'.board)) eb ∙ ap (λ (z : TableBoard). refused_as r b (lists_of z)) et ∙ e in
+    subst (λ (z : Ready). Follows (Performs c) d p₀ d' (held_between (Open z))) (sym ep) (turned_down (Open r.pass) r.why own seen n)
 
 -- what comes back in hand may be worked
 pub may_work : (c : Call) (d : Desk) (p : Held) {d' : Desk} (h : InHand) → Made c d p d' (held_working h) → p.book ≡ id_of d.book → Bearable p.pass (book_state d.book) → MayWork d' h

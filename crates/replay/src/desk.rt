@@ -1,6 +1,10 @@
 // The desk: it follows the instructions of a day over one book and a table board, and notes what is reported.
+ghost use Rattle.std.specs.Prelude.{◌≡◌, [], ◌∷◌};
+ghost use Rattle.market.specs.Reports.{refusal_number};
 ghost use Rattle.market.specs.declared.types.Call.TheVariants.{Enter, Replace, Cut, Cancel, Reply, Close, Expire};
 ghost use Rattle.order_file.specs.declared.instructions.Instruction.TheVariants.{Quote as Quote'};
+ghost use Rattle.replay.specs.Days.{refusal};
+ghost use Rattle.replay.specs.Records.{Noted};
 ghost use Rattle.replay.specs.Desks.{IsOwn, MayWork, Finished, Performed, Followed};
 
 use crate::record::{Line, Record};
@@ -18,13 +22,25 @@ pub enum Stage {
 
 // A book and a board, and what was noted of them.
 #[derive(Drop)]
-pub struct Desk {
-    pub book: Book,
-    pub board: TableBoard,
-    pub log: Record,
+pub(crate) struct Desk {
+    pub(crate) book: Book,
+    pub(crate) board: TableBoard,
+    pub(crate) log: Record,
 }
 
 impl Desk {
+    // Notes why a call was refused, and gives the pass that it handed back.
+    fn turned_down(&mut self, refused: Refused<Ready>) -> Ready
+        ensures pass { result ≡ refused.pass }
+        ensures noted { Noted (refusal (refusal_number refused.why) ∷ []) self.old.log self.new.log }
+        ensures book { self.new.book ≡ self.old.book }
+        ensures board { self.new.board ≡ self.old.board }
+    {
+        let Refused { why, pass } = refused;
+        self.log.note(Line(Err(why)));
+        pass
+    }
+
     // Works the order in hand to its end.
     fn finish(&mut self, hand: InHand) -> Ready
         requires { MayWork self.old hand }
@@ -32,6 +48,7 @@ impl Desk {
     {
         let mut hand = hand;
         loop {
+            // Not let-else: what it lets go would hold the pass that a refusal hands back, and a pass is not dropped.
             let (next, report) = match self.book.work(hand, &mut self.board) {
                 Ok(worked) => worked,
                 Err(_) => unreachable!(),
@@ -49,10 +66,7 @@ impl Desk {
         ensures { Performed (Enter side t) self.old (Stage.Open pass) self.new (Stage.Open result) }
     {
         match self.book.enter(pass, side, t) {
-            Err(Refused { why, pass }) => {
-                self.log.note(Line(Err(why)));
-                pass
-            }
+            Err(refused) => self.turned_down(refused),
             Ok((hand, report)) => {
                 self.log.note(Line(Ok(report)));
                 self.finish(hand)
@@ -65,10 +79,7 @@ impl Desk {
         ensures { Performed (Replace t number) self.old (Stage.Open pass) self.new (Stage.Open result) }
     {
         match self.book.replace(pass, t, number) {
-            Err(Refused { why, pass }) => {
-                self.log.note(Line(Err(why)));
-                pass
-            }
+            Err(refused) => self.turned_down(refused),
             Ok((hand, off, entered)) => {
                 self.log.note(Line(Ok(off)));
                 self.log.note(Line(Ok(entered)));
@@ -82,10 +93,7 @@ impl Desk {
         ensures { Performed (Reply filled number) self.old (Stage.Open pass) self.new (Stage.Open result) }
     {
         match self.book.reply(pass, filled, number) {
-            Err(Refused { why, pass }) => {
-                self.log.note(Line(Err(why)));
-                pass
-            }
+            Err(refused) => self.turned_down(refused),
             Ok((next, report)) => {
                 self.log.note(Line(Ok(report)));
                 match next {
@@ -138,10 +146,7 @@ impl Desk {
     {
         match self.book.close(pass) {
             Ok(ended) => Stage::Over(ended),
-            Err(Refused { why, pass }) => {
-                self.log.note(Line(Err(why)));
-                Stage::Open(pass)
-            }
+            Err(refused) => Stage::Open(self.turned_down(refused)),
         }
     }
 

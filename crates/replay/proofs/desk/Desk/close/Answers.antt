@@ -14,4 +14,4 @@ returns-in-Ok c =
 pub returns-in-Err : goal.returns-in-Err
 returns-in-Err c =
     let e = c.in-Err.ensures in
-    handed_back c.in-Err.field-0 c.requires (e (lists_of c.args.self.now.board)) c.note.ensures
+    handed_back c.in-Err.refused c.turned_down.result c.close.new.self c.args.self.now.board c.requires (e (lists_of c.args.self.now.board)) c.turned_down.ensures.pass c.turned_down.ensures.noted c.turned_down.ensures.book c.turned_down.ensures.board

@@ -12,14 +12,14 @@ use Rattle.replay.proofs.desk.Desk.replace.Goals as goal
 pub returns-in-Err : goal.returns-in-Err
 returns-in-Err c =
     let e = c.in-Err.ensures in
-    handed_back c.in-Err.field-0 c.requires (e (lists_of c.args.self.now.board)) c.note.ensures
+    handed_back c.in-Err.refused c.turned_down.result c.replace.new.self c.args.self.now.board c.requires (e (lists_of c.args.self.now.board)) c.turned_down.ensures.pass c.turned_down.ensures.noted c.turned_down.ensures.book c.turned_down.ensures.board
 
 pub finish-requires : goal.finish-requires
 finish-requires c =
     let e = c.in-Ok.ensures in
-    may_work (Replace c.args.t c.args.number) c.args.self.now (held_between (Open c.args.pass)) c.in-Ok.hand (made (reports (c.in-Ok.off ∷ c.in-Ok.entered ∷ [])) c.requires (e (lists_of c.args.self.now.board)) (noted_on (report c.in-Ok.off ∷ []) (report c.in-Ok.entered ∷ []) c.args.self.now.log c.note-in-Ok.new.self c.note-in-Ok-2.new.self c.note-in-Ok.ensures c.note-in-Ok-2.ensures)) c.requires tt
+    may_work (Replace c.args.t c.args.number) c.args.self.now (held_between (Open c.args.pass)) c.in-Ok.hand (made (reports (c.in-Ok.off ∷ c.in-Ok.entered ∷ [])) c.requires (e (lists_of c.args.self.now.board)) (noted_on (report c.in-Ok.off ∷ []) (report c.in-Ok.entered ∷ []) c.args.self.now.log c.note.new.self c.note-in-Ok.new.self c.note.ensures c.note-in-Ok.ensures)) c.requires tt
 
 pub returns-in-Ok : goal.returns-in-Ok
 returns-in-Ok c =
     let e = c.in-Ok.ensures in
-    and_finished {p₁ = held_working c.in-Ok.hand} (made (reports (c.in-Ok.off ∷ c.in-Ok.entered ∷ [])) c.requires (e (lists_of c.args.self.now.board)) (noted_on (report c.in-Ok.off ∷ []) (report c.in-Ok.entered ∷ []) c.args.self.now.log c.note-in-Ok.new.self c.note-in-Ok-2.new.self c.note-in-Ok.ensures c.note-in-Ok-2.ensures)) c.finish.ensures
+    and_finished {p₁ = held_working c.in-Ok.hand} (made (reports (c.in-Ok.off ∷ c.in-Ok.entered ∷ [])) c.requires (e (lists_of c.args.self.now.board)) (noted_on (report c.in-Ok.off ∷ []) (report c.in-Ok.entered ∷ []) c.args.self.now.log c.note.new.self c.note-in-Ok.new.self c.note.ensures c.note-in-Ok.ensures)) c.finish.ensures
