@@ -1,5 +1,6 @@
 -- The line format: how fields, and a report, are written as bytes.
-use Rattle.std.specs.Prelude.{ℕ, List, [], ◌∷◌, ◌++◌, map, codes, decimal}
+use Rattle.std.specs.Prelude.{◌≡◌, ℕ, List, [], ◌∷◌, ◌++◌, map, Some, Option, codes, decimal}
+use Rattle.std.specs.List.{flat_map}
 use Rattle.market.specs.declared.types.Side.{Side}
 use Rattle.market.specs.declared.types.Side.TheVariants.{Buy, Sell}
 use Rattle.market.specs.declared.types.Kind.{Kind}
@@ -84,3 +85,11 @@ report_line r = line_of (report_cells r)
 
 abbrev pub refusal_line : ℕ → List ℕ
 refusal_line n = line_of (refusal_cells n)
+
+-- the names line, then a line for each item
+abbrev pub lines_under : {T : Type 0} → List ℕ → (T → List ℕ) → List T → List ℕ
+lines_under names line items = (names ++ 10 ∷ []) ++ flat_map (λ x. line x ++ 10 ∷ []) items
+
+-- the text is the names line and the items' lines, where it is known how each item is written; each line ends with LF
+abbrev pub LinesUnder : {T : Type 0} → (T → Option (List ℕ)) → List ℕ → List T → List ℕ → Type 0
+LinesUnder {T} output names items text = (line : T → List ℕ) → ((x : T) → output x ≡ Some (line x)) → text ≡ lines_under names line items

@@ -8,3 +8,4 @@ pub mod reports;
 pub mod shares;
 pub mod sides;
 pub mod types;
+pub mod written;
