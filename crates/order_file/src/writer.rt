@@ -5,6 +5,7 @@ ghost use Rattle.order_file.specs.Instructions.{written};
 
 use crate::instructions::{Instruction, NAMES};
 use market::types::{Quotation, Terms};
+use market::written::render_lines;
 use std::alloc::{AllocError, Global};
 use std::fmt;
 
@@ -53,13 +54,8 @@ impl fmt::Display for Instruction {
 }
 
 // The file that writes the instructions.
-#[tactic(auto, unfolding(crate::specs::Files::names))]
 pub fn render(instructions: &[Instruction], heap: Global) -> Result<String, AllocError>
     ensures { IfOk result (λ s. string_bytes s ≡ text_of instructions.now) }
 {
-    let mut out = format!(in heap; "{NAMES}\n")?;
-    for instruction in instructions {
-        writeln!(out, "{instruction}")?;
-    }
-    Ok(out)
+    render_lines(NAMES, instructions, heap)
 }

@@ -7,11 +7,11 @@ use crate::desk::{Desk, Stage};
 use crate::record::{Line, Record};
 use book::book::Book;
 use book::house::{House, NotMade};
+use market::written::render_lines;
 use order_file::faults::ReadError;
 use order_file::instructions::Instruction;
 use order_file::reader::read;
 use std::alloc::{AllocError, Global};
-use std::fmt::Write;
 use table_board::table::TableBoard;
 
 // A day that has been run: the book, the pass between two instructions, and what was noted.
@@ -63,16 +63,11 @@ pub fn release(book: Book, stage: Stage) {
 }
 
 // The record as text: the names line, then a line for each report and refusal.
-#[tactic(auto, unfolding(crate::specs::Sessions::report_names))]
 pub fn render(lines: &[Line], heap: Global) -> Result<String, AllocError>
     ensures { IfOk result (λ s. string_bytes s ≡ lines_text (map told_of lines.now)) }
 {
-    let mut out = String::new(heap);
-    out.push_str("report number user side price shares held other\n")?;
-    for line in lines {
-        writeln!(out, "{line}")?;
-    }
-    Ok(out)
+    let names = "report number user side price shares held other";
+    render_lines(names, lines, heap)
 }
 
 // A whole session: the bytes of an order file in, the text of its reports or of its first fault out.
