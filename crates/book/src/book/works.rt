@@ -5,7 +5,7 @@ ghost use Rattle.market.specs.declared.types.Call.TheVariants.{Work};
 ghost use Rattle.market.specs.declared.types.Move.TheVariants.{Trade, Send, Rest};
 ghost use Rattle.market.specs.Sides.{across_of};
 ghost use Rattle.market.specs.States.{quotes_of, no_quotes, quoted, on, fits};
-ghost use Rattle.market.specs.Steps.{ends, resting_near, quotation_near, move_of, act, step};
+ghost use Rattle.market.specs.Steps.{ends, resting_near, move_of, act, step};
 ghost use Rattle.market.specs.Calls.{in_hand};
 ghost use Rattle.market.specs.Sound.{able};
 ghost use Rattle.resting.specs.Sides.{first_shown};
@@ -39,10 +39,11 @@ impl Book {
         ensures { result ≡ move_of (book_state self.now) (quotes_of (B.bids board.now) (B.offers board.now)) o }
     {
         let across = o.side.across();
+        let is_near = |price| o.side.is_within(o.limit, price);
         let resting = self.orders.first_on(across);
         let quotation = first_line(board, across);
         if let Some(p) = resting
-            && o.side.is_within(o.limit, p.price)
+            && is_near(p.price)
             && (o.kind.trades_past() || !first_better(board, across, p.price))
         {
             return Move::Trade {
@@ -53,18 +54,16 @@ impl Book {
         }
         if let Some(q) = quotation
             && o.kind.goes_out()
-            && o.side.is_within(o.limit, q.price)
+            && is_near(q.price)
         {
             if self.orders.has_no_route() {
                 return Move::TakeOff(Reason::NoRoute);
             }
             return Move::Send(q);
         }
-        let is_near = |first: Option<u32>| first.is_some_and(|price| o
-            .side
-            .is_within(o.limit, price));
         ending(
-            is_near(resting.map(|p| p.price)) || is_near(quotation.map(|q| q.price)),
+            resting.is_some_and(|p| is_near(p.price))
+                || quotation.is_some_and(|q| is_near(q.price)),
             self.orders.is_full(o.side),
             o.kind,
         )
