@@ -134,8 +134,10 @@ impl Book {
         if pass.book == self.id && self.orders.may_work(pass.order.number) {
             return Ok(pass);
         }
-        let why = Refusal::WrongPass;
-        Err(Refused { why, pass })
+        Err(Refused {
+            why: Refusal::WrongPass,
+            pass,
+        })
     }
 
     // Does one step of the order in hand.
