@@ -20,7 +20,7 @@ pub enum Stage {
     Over(Ended),
 }
 
-// A book and a board, and what was noted of them.
+// A book and a board, and what was noted of them. The pass is no field: each method takes its own kind, which a field could not say.
 #[derive(Drop)]
 pub(crate) struct Desk {
     pub(crate) book: Book,
