@@ -153,6 +153,7 @@ pub fn read(file: &[u8], heap: Global) -> Result<Vec<Instruction>, ReadError>
     check_length(file)?;
     let mut instructions = Vec::with_capacity(heap, file.len() / SHORTEST_LINE)?;
     let mut reader = Reader::new(file);
+    // The names line is a step that gives no instruction and is not the last, so the reader is no iterator.
     while !reader.is_stopped() {
         if let Some(instruction) = reader.step()? {
             instructions.push_reserved(instruction);
