@@ -1,4 +1,3 @@
 pub mod Placing
 pub mod Ranking
-pub mod Same
 pub mod Finding

@@ -1,6 +1,0 @@
-use Rattle.std.proofs.Common.{refl}
-use Rattle.ranking.proofs.Same.{same_list}
-use Rattle.ranking.proofs.list.RankedList.line_mut.Goals as goal
-
-pub returns : goal.returns
-returns g c = ((refl, λ w. same_list _ _ _ _ _), record { follows = tt; value = c.index_mut.ensures.value })
