@@ -1,3 +1,4 @@
 pub mod Placing
 pub mod Ranking
+pub mod Same
 pub mod Finding

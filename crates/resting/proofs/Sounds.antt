@@ -2,8 +2,7 @@
 use Rattle.std.proofs.Common.{◌≡◌, ℕ, ◌+◌, ◌<◌, ◌≤◌, true, List, length, get_or, take, drop, sym, refl, ap, ◌∙◌, subst, arith}
 use Rattle.std.proofs.lemmas.Bool.Decides.{nat_tests}
 use Rattle.std.specs.List.{remove}
-use Rattle.ranking.specs.Lists.{lines_of}
-use Rattle.ranking.specs.declared.list.RankedList.{RankedList}
+use Rattle.ranking.specs.Lists.{Bounded, lines_of}
 use Rattle.ranking.specs.Place.{spot_at, every}
 use Rattle.market.specs.declared.types.Side.{Side}
 use Rattle.market.specs.declared.types.Side.TheVariants.{Buy, Sell}
@@ -25,16 +24,16 @@ pub sound_of : (o : OpenOrders) → Sound (state_of o)
 sound_of o = o.sound
 
 -- the list of a side, and the state with another list in its place
-pub on_side : (d : Side) (o : OpenOrders) (l : RankedList Resting 256) → l ≡ pick d o.sides.buy o.sides.sell → lines_of l ≡ on d (state_of o)
+pub on_side : (d : Side) (o : OpenOrders) (l : Bounded 256 Resting) → l ≡ pick d o.sides.buy o.sides.sell → lines_of l ≡ on d (state_of o)
 on_side Buy o l e = ap lines_of e
 on_side Sell o l e = ap lines_of e
 
-pub put_side : (d : Side) (o : OpenOrders) (l : RankedList Resting 256) → state (lines_of (pick d l o.sides.buy)) (lines_of (pick d o.sides.sell l)) (lines_of o.routes) o.next ≡ put d (lines_of l) (state_of o)
+pub put_side : (d : Side) (o : OpenOrders) (l : Bounded 256 Resting) → state (lines_of (pick d l o.sides.buy)) (lines_of (pick d o.sides.sell l)) (lines_of o.routes) o.next ≡ put d (lines_of l) (state_of o)
 put_side Buy o l = refl
 put_side Sell o l = refl
 
 -- a side changed, so that the state stays sound
-pub sound_put : (d : Side) (o : OpenOrders) (l : RankedList Resting 256) (xs : List Resting) → lines_of l ≡ xs → Sound (put d xs (state_of o)) → Sound (state (lines_of (pick d l o.sides.buy)) (lines_of (pick d o.sides.sell l)) (lines_of o.routes) o.next)
+pub sound_put : (d : Side) (o : OpenOrders) (l : Bounded 256 Resting) (xs : List Resting) → lines_of l ≡ xs → Sound (put d xs (state_of o)) → Sound (state (lines_of (pick d l o.sides.buy)) (lines_of (pick d o.sides.sell l)) (lines_of o.routes) o.next)
 sound_put d o l xs e h =
     let P : State → Type 0 = Sound in
     subst P (sym (put_side d o l ∙ ap (λ ys. put d ys (state_of o)) e)) h

@@ -3,8 +3,7 @@ use Rattle.std.proofs.Common.{◌≡◌, ℕ, ◌<◌, Bool, true, false, ◌||�
 use Rattle.std.proofs.lemmas.Bool.{cond_both}
 use Rattle.std.proofs.lemmas.Bool.Decides.{nat_tests}
 use Rattle.ranking.specs.Place.{place}
-use Rattle.ranking.specs.Lists.{lines_of}
-use Rattle.ranking.specs.declared.list.RankedList.{RankedList}
+use Rattle.ranking.specs.Lists.{Bounded, lines_of}
 use Rattle.market.specs.declared.types.Side.{Side}
 use Rattle.market.specs.declared.types.Side.TheVariants.{Buy, Sell}
 use Rattle.market.specs.declared.types.Quotation.{Quotation}
@@ -32,7 +31,7 @@ showable_side Buy b = b.shown.0
 showable_side Sell b = b.shown.1
 
 -- a list changed, so that both may still be shown
-pub shown_with : (d : Side) (b : TableBoard) (l : RankedList Quotation 64) (xs : List Quotation) → lines_of l ≡ xs → Showable d xs → Shown (quotes_of (lines_of (pick d l b.lists.buy)) (lines_of (pick d b.lists.sell l)))
+pub shown_with : (d : Side) (b : TableBoard) (l : Bounded 64 Quotation) (xs : List Quotation) → lines_of l ≡ xs → Showable d xs → Shown (quotes_of (lines_of (pick d l b.lists.buy)) (lines_of (pick d b.lists.sell l)))
 shown_with Buy b l xs e h = (subst (Showable Buy) (sym e) h, b.shown.1)
 shown_with Sell b l xs e h = (b.shown.0, subst (Showable Sell) (sym e) h)
 

@@ -5,12 +5,13 @@ ghost use Rattle.market.specs.Quotes.{Shown};
 
 use market::sides::Sides;
 use market::types::Quotation;
+use ranking::limit::AtMost;
 use ranking::list::RankedList;
 
 pub mod methods;
 
 // The quotations of one side: room for a line of each of the 64 venues is reserved when it is made.
-pub(crate) type QuotationList = RankedList<Quotation, 64>;
+pub(crate) type QuotationList = RankedList<Quotation, AtMost<64>>;
 
 #[derive(Drop)]
 pub struct TableBoard {

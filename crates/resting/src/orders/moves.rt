@@ -17,6 +17,7 @@ use market::legal::number_after;
 use market::ranks::ByNumber;
 use market::sides::Sides;
 use market::types::{Order, Quotation, Resting, Route, Side};
+use ranking::limit::AtMost;
 use ranking::list::RankedList;
 use std::alloc::{AllocError, Global};
 
@@ -25,9 +26,9 @@ impl OpenOrders {
     pub fn make(heap: Global, first: u32) -> Result<OpenOrders, AllocError>
         ensures { IfOk result (λ x. state_of x ≡ new_state first) }
     {
-        let buy = RankedList::make(heap)?;
-        let sell = RankedList::make(heap)?;
-        let routes = RankedList::make(heap)?;
+        let buy = RankedList::make(heap, AtMost)?;
+        let sell = RankedList::make(heap, AtMost)?;
+        let routes = RankedList::make(heap, AtMost)?;
         Ok(OpenOrders {
             sides: Sides { buy, sell },
             routes,
@@ -60,7 +61,11 @@ impl OpenOrders {
         requires may { Restable side p (state_of self.old) }
         ensures { state_of self.new ≡ put side (place (resting_before side) p (on side (state_of self.old))) (state_of self.old) }
     {
-        self.sides.on_mut(side).insert(&side, p);
+        // The rank of a side that is known in each arm is compared in half the steps, on every line that it passes.
+        match side {
+            Side::Buy => self.sides.buy.insert(&Side::Buy, p),
+            Side::Sell => self.sides.sell.insert(&Side::Sell, p),
+        }
     }
 
     // Opens a route for k shares under the next number.

@@ -27,23 +27,32 @@ impl OpenOrders {
         self.route_line(place).map(Route::on_list)
     }
 
-    // Whether a side of the rank sheet is the same.
+    // Whether a side of the rank sheet is the same. The counts are compared first, since two sides of unequal length need no look at their lines.
     fn has_the_side_of(&self, other: &OpenOrders, side: Side) -> bool
         ensures { Decides result (on side (sheet (state_of self.now)) ≡ on side (sheet (state_of other.now))) }
     {
-        let ours = self.sides.on(side).as_slice().iter().copied();
-        let theirs = other.sides.on(side).as_slice().iter().copied();
-        ours.map(Resting::on_sheet)
-            .eq(theirs.map(Resting::on_sheet))
+        let ours = self.sides.on(side).as_slice();
+        let theirs = other.sides.on(side).as_slice();
+        ours.len() == theirs.len()
+            && ours
+                .iter()
+                .copied()
+                .map(Resting::on_sheet)
+                .eq(theirs.iter().copied().map(Resting::on_sheet))
     }
 
     // Whether the route list is the same.
     fn has_the_routes_of(&self, other: &OpenOrders) -> bool
         ensures { Decides result ((sheet (state_of self.now)).routes ≡ (sheet (state_of other.now)).routes) }
     {
-        let ours = self.routes.as_slice().iter().copied();
-        let theirs = other.routes.as_slice().iter().copied();
-        ours.map(Route::on_list).eq(theirs.map(Route::on_list))
+        let ours = self.routes.as_slice();
+        let theirs = other.routes.as_slice();
+        ours.len() == theirs.len()
+            && ours
+                .iter()
+                .copied()
+                .map(Route::on_list)
+                .eq(theirs.iter().copied().map(Route::on_list))
     }
 
     // Whether two are equal, in the words of the model.

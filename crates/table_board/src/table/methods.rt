@@ -11,6 +11,7 @@ use board::Board;
 use market::legal::{is_legal_price, is_legal_venue};
 use market::sides::Sides;
 use market::types::{Quotation, Refusal, Side};
+use ranking::limit::AtMost;
 use ranking::list::RankedList;
 use std::alloc::{AllocError, Global};
 
@@ -50,8 +51,8 @@ impl TableBoard {
     pub fn make(heap: Global) -> Result<TableBoard, AllocError>
         ensures { IfOk result (λ b. lists_of b ≡ no_quotes) }
     {
-        let buy = RankedList::make(heap)?;
-        let sell = RankedList::make(heap)?;
+        let buy = RankedList::make(heap, AtMost)?;
+        let sell = RankedList::make(heap, AtMost)?;
         Ok(TableBoard {
             lists: Sides { buy, sell },
         })

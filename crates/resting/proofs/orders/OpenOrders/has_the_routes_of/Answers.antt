@@ -11,9 +11,9 @@ use Rattle.resting.proofs.orders.OpenOrders.has_the_routes_of.Goals as goal
 same_route : (x y : Route) → Decides (TheImpl.ghosts.eq x y) (x ≡ y)
 same_route x y = search rules
 
-pub returns : goal.returns
-returns c =
-    same_from_eq c.map-2.result c.eq.result c.eq.ensures.ran
+pub returns-then-ours-theirs : goal.returns-then-ours-theirs
+returns-then-ours-theirs c =
+    same_from_eq c.map-then-ours-theirs.result c.eq.result c.eq.ensures.ran
     (YieldsList-from_map _ route_line (YieldsList-from_copied (YieldsList-from_slice (lines_of c.args.self.now.routes) cc)) c.map.ensures.closure (λ x r q k. search rules))
-    (YieldsList-from_map _ route_line (YieldsList-from_copied (YieldsList-from_slice (lines_of c.args.other.now.routes) cc)) c.map-2.ensures.closure (λ x r q k. search rules))
+    (YieldsList-from_map _ route_line (YieldsList-from_copied (YieldsList-from_slice (lines_of c.args.other.now.routes) cc)) c.map-then-ours-theirs.ensures.closure (λ x r q k. search rules))
     same_route

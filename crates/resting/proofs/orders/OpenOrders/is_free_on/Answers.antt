@@ -8,4 +8,4 @@ pub returns : goal.returns
 returns c =
     let o = c.args.self.now in
     let there = on_side c.args.side o c.on.result.now c.on.ensures in
-    c.lacks.ensures (resting_bears c.args.number) (λ x r k. search rules) ∙ ap (every (λ p. not (resting_bears c.args.number p))) there
+    c.lacks.ensures.none (resting_bears c.args.number) (λ x r k. search rules) ∙ ap (every (λ p. not (resting_bears c.args.number p))) there
