@@ -14,7 +14,8 @@ pub fn render_lines<T: fmt::Display>(
 ) -> Result<String, AllocError>
     ensures { IfOk result (λ s. LinesUnder T.output names.now items.now (string_bytes s)) }
 {
-    let mut out = String::new(heap);
+    // The names line takes its room at once, with its end.
+    let mut out = String::with_capacity(heap, names.len() + 1)?;
     writeln!(out, "{names}")?;
     for item in items {
         writeln!(out, "{item}")?;
